@@ -6,8 +6,7 @@ ghost use Rattle.exports.specs.Numbers.{label_number, label_count};
 use crate::put_count;
 
 // The boundary table of an old one: 0 where it is written, with the count of its bytes, else the refusal's number.
-#[unsafe(no_mangle)]
-pub extern "C" fn leveretplate_boundary(
+pub fn leveretplate_boundary(
     sizes: &[u8],
     divisions: &[u16],
     old: &[u8],

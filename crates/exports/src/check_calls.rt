@@ -18,13 +18,7 @@ fn check_number(answer: CheckAnswer) -> u16
 }
 
 // What the checker says of the points, m numbers each one after another.
-#[unsafe(no_mangle)]
-pub extern "C" fn leveretplate_check(
-    sizes: &[u8],
-    divisions: &[u16],
-    labels: &[u8],
-    points: &[u16],
-) -> u16
+pub fn leveretplate_check(sizes: &[u8], divisions: &[u16], labels: &[u8], points: &[u16]) -> u16
     ensures { result ≡ check_number (check_answer (lent sizes.now divisions.now)
         labels.now points.now) }
 {

@@ -27,8 +27,7 @@ use text::SHEET_BYTES;
 // The run on a label table: 0 at an end, else the refusal's number. The facts are the places, the labels read, the kind
 // of end (0 place, 1 facet), the block and the number of vertices; of the refusals 9 writes one, the places, and 16
 // two, the places before and the position of the label that is not yet known.
-#[unsafe(no_mangle)]
-pub extern "C" fn leveretplate_run(
+pub fn leveretplate_run(
     sizes: &[u8],
     divisions: &[u16],
     start: &[u16],
@@ -66,8 +65,7 @@ fn put_count(found: Labelled, count: &mut u64) -> u8
 }
 
 // The labels of a game: 0 where they are written, with their count, else the refusal's number.
-#[unsafe(no_mangle)]
-pub extern "C" fn leveretplate_label(
+pub fn leveretplate_label(
     sizes: &[u8],
     divisions: &[u16],
     losses: &[u16],
@@ -87,8 +85,7 @@ pub extern "C" fn leveretplate_label(
 }
 
 // The sheet of a slip: its length.
-#[unsafe(no_mangle)]
-pub extern "C" fn leveretplate_sheet(slip: &[u8], sheet: &mut [u8; SHEET_BYTES]) -> usize
+pub fn leveretplate_sheet(slip: &[u8], sheet: &mut [u8; SHEET_BYTES]) -> usize
     ensures { (result ≡ length (sheet_of slip.now))
         × (sheet.new ≡ front (sheet_of slip.now) sheet.old) }
 {

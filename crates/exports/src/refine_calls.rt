@@ -39,8 +39,7 @@ fn put_levels(found: Refined, facts: &mut [u64])
 
 // A game on finer and finer grids: 0 where all levels were run, else the refusal's number. The facts are five for each
 // level: the places, the labels read, the kind of end (0 place, 1 facet), the block and the number of vertices.
-#[unsafe(no_mangle)]
-pub extern "C" fn leveretplate_refine(
+pub fn leveretplate_refine(
     sizes: &[u8],
     divisions: &[u16],
     start: &[u16],

@@ -6,13 +6,7 @@ ghost use Rattle.exports.specs.Shelf.{current_number, current_sheet, filed_count
 use shelf::{Current, Filed};
 
 // Files a sheet: 0 and the new count of sheets, else the refusal's number.
-#[unsafe(no_mangle)]
-pub extern "C" fn leveretplate_file(
-    list: &mut [u16],
-    count: usize,
-    named: usize,
-    to: &mut usize,
-) -> u8
+pub fn leveretplate_file(list: &mut [u16], count: usize, named: usize, to: &mut usize) -> u8
     ensures number { result ≡ filed_number (filing list.old count named) }
     ensures count { to.new ≡ filed_count (filing list.old count named) to.old }
     ensures list { list.new ≡ list_filed list.old count named }
@@ -27,13 +21,7 @@ pub extern "C" fn leveretplate_file(
 }
 
 // Asks for a sheet: 0 and the current one, else the refusal's number.
-#[unsafe(no_mangle)]
-pub extern "C" fn leveretplate_current(
-    list: &[u16],
-    count: usize,
-    sheet: usize,
-    to: &mut usize,
-) -> u8
+pub fn leveretplate_current(list: &[u16], count: usize, sheet: usize, to: &mut usize) -> u8
     ensures number { result ≡ current_number (asking list.now count sheet) }
     ensures sheet { to.new ≡ current_sheet (asking list.now count sheet) to.old }
 {

@@ -24,8 +24,7 @@ fn put_nearest(found: Nearest, near: &mut [u64])
 
 // A run with a point w, a distance and a list: 0 at an end, else the refusal's number. The facts are the run's. At an
 // end `near` has the position of the nearest visited vertex and the number of positions in the list.
-#[unsafe(no_mangle)]
-pub extern "C" fn leveretplate_nearest(
+pub fn leveretplate_nearest(
     sizes: &[u8],
     divisions: &[u16],
     start: &[u16],

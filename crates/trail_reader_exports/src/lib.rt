@@ -33,8 +33,7 @@ fn put_place(found: trail_reader::ReadAnswer, place: &mut [u64]) -> u8
 // The place at a record of a trail: 0 where it is rebuilt, else the refusal's number. `place` has the number of points,
 // T and U as masks, bit h for index h + 1, and the labels read up to the place. The points' numbers, m each, stand at
 // the front of `points`, its old contents behind; a refusal changes neither buffer.
-#[unsafe(no_mangle)]
-pub extern "C" fn leveretplate_read_trail(
+pub fn leveretplate_read_trail(
     sizes: &[u8],
     divisions: &[u16],
     start: &[u16],

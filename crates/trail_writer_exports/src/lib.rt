@@ -34,8 +34,7 @@ fn bytes_written(found: trail_writer::TrailAnswer, old: u64) -> u64
 
 // A run with a trail: 0 at an end, else the refusal's number. The facts are the run's, and `bytes` is how many bytes of
 // the trail are written, which only an end sets.
-#[unsafe(no_mangle)]
-pub extern "C" fn leveretplate_run_with_trail(
+pub fn leveretplate_run_with_trail(
     sizes: &[u8],
     divisions: &[u16],
     start: &[u16],

@@ -8,8 +8,7 @@ ghost use Rattle.walk_numbers.specs.Answered.{after_beginning, after_moving, aft
 use walk_numbers::{Answered, after_beginning, after_moving, after_pointing, after_showing};
 
 // Makes the walk at {v}, with 1 as its places so far and its labels read.
-#[unsafe(no_mangle)]
-pub extern "C" fn leveretplate_walk_at_start(
+pub fn leveretplate_walk_at_start(
     s: &mut Answered,
     sizes: &[u8],
     divisions: &[u16],
@@ -23,24 +22,21 @@ pub extern "C" fn leveretplate_walk_at_start(
 }
 
 // Moves the walk on by one place.
-#[unsafe(no_mangle)]
-pub extern "C" fn leveretplate_move_on(s: &mut Answered, labels: &[u8])
+pub fn leveretplate_move_on(s: &mut Answered, labels: &[u8])
     ensures { s.new ≡ after_moving s.old labels.now }
 {
     *s = after_moving(*s, labels);
 }
 
 // Shows the move before it is made: the walk is as it was.
-#[unsafe(no_mangle)]
-pub extern "C" fn leveretplate_preview(s: &mut Answered, labels: &[u8])
+pub fn leveretplate_preview(s: &mut Answered, labels: &[u8])
     ensures { s.new ≡ after_showing s.old labels.now }
 {
     *s = after_showing(*s, labels);
 }
 
 // Gives the points of the present place: the walk is as it was.
-#[unsafe(no_mangle)]
-pub extern "C" fn leveretplate_walk_points(s: &mut Answered, labels: &[u8])
+pub fn leveretplate_walk_points(s: &mut Answered, labels: &[u8])
     ensures { s.new ≡ after_pointing s.old labels.now }
 {
     *s = after_pointing(*s, labels);

@@ -2,7 +2,7 @@
 use mathlib.Core.Bool.{Bool, true, false, not, ◌&&◌}
 use mathlib.Core.List.{List}
 use mathlib.Core.Logic.{⊎_elim}
-use mathlib.Core.Path.{◌≡◌, refl, sym, ◌∙◌, subst}
+use mathlib.Core.Path.{◌≡◌, refl, subst}
 use Prim.Native.Nat.{ℕ, zero, suc, ◌-◌, ◌<◌}
 use lib.Dec.{eqb, ltb}
 use lib.ListN.{length}
@@ -11,7 +11,7 @@ use Rattle.combinatorics.proofs.Basics.{true_or_false}
 use Rattle.grid_points.specs.Grid.{at}
 use Rattle.rules.proofs.FirstMet.{below}
 use Rattle.rules.proofs.SameMasks.{without_none}
-use Rattle.rules.specs.Mask.{bit, without_index}
+use Rattle.rules.specs.Mask.{bit}
 use Rattle.rules.specs.Ready.{IndicesBelow}
 use Rattle.rules.specs.Moves.{After, State, ends_at_facet, ends_at_place, first_met, first_outside_or_zero, goes}
 use Rattle.rules.specs.Moves.{grow, is_filled, leave, leave_first, leave_last, leave_middle, shrink, source_in}

@@ -1,5 +1,4 @@
 -- `ways::gone_by` meets its contract. Assumes nothing.
-use borrow.Author.Rules.{rules}
 use Rattle.ways.proofs.gone_by.Goals as goal
 
 pub position_at-requires : goal.position_at-requires

@@ -1,6 +1,5 @@
 -- `going::go_back` meets its contract. Assumes nothing.
 use native.Mathlib.Numerals.{add-one}
-use borrow.Author.Rules.{rules}
 use Rattle.arrays.proofs.going.go_back.Goals as goal
 
 pub returns : goal.returns

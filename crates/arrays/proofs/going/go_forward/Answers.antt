@@ -1,6 +1,5 @@
 -- `going::go_forward` meets its contract. Assumes nothing.
 use native.Mathlib.Numerals.{add-one}
-use borrow.Author.Rules.{rules}
 use Rattle.arrays.proofs.going.go_forward.Goals as goal
 
 pub returns : goal.returns

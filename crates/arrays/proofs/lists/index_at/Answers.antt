@@ -1,6 +1,5 @@
 -- `lists::index_at` meets its contract. Assumes nothing.
 use Rattle.rules.proofs.FirstMet.{entry, entry-below}
-use borrow.Author.Rules.{rules}
 use Rattle.arrays.proofs.lists.index_at.Goals as goal
 
 pub returns : goal.returns

@@ -2,12 +2,11 @@
 -- behind the list is as it was. The measure: k. Assumes nothing.
 use mathlib.Core.Path.{◌≡◌, refl, ◌∙◌}
 use Prim.Native.Nat.{suc, ◌≤◌}
-use lib.ListN.{length, length-set, drop, take, set}
+use lib.ListN.{length, length-set, take}
 use lib.Seq.{drop-set-lt, length-take-le}
 use native.Mathlib.Numerals.{add-one}
 use native.Mathlib.Omega.{arith}
 use Rattle.combinatorics.proofs.EditsOfArrays.{insert-last, insert-back}
-use Rattle.combinatorics.specs.Edits.{insert_at}
 use Rattle.arrays.proofs.lists.insert.Goals as goal
 
 pub loop-k-init : goal.loop-k-init

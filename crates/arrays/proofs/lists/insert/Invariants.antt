@@ -1,12 +1,8 @@
 -- `lists::insert` meets its contract. The invariant: x stored at k would be x put before entry k, and what stands
 -- behind the list is as it was. The measure: k. Assumes nothing.
-use mathlib.Core.Path.{◌≡◌, refl, ◌∙◌}
+use mathlib.Core.Path.{◌≡◌}
 use Prim.Native.Nat.{suc, ◌≤◌}
-use lib.ListN.{length, length-set, drop, take, set}
-use lib.Seq.{drop-set-lt, length-take-le}
-use native.Mathlib.Numerals.{add-one}
-use native.Mathlib.Omega.{arith}
-use Rattle.combinatorics.proofs.EditsOfArrays.{insert-last, insert-back}
+use lib.ListN.{length, drop, take, set}
 use Rattle.combinatorics.specs.Edits.{insert_at}
 use Rattle.arrays.proofs.lists.insert.Given as goal
 

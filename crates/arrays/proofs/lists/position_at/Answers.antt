@@ -1,7 +1,6 @@
 -- `lists::position_at` meets its contract: the mark stands at the front of its array. Assumes nothing.
 use mathlib.Core.Path.{refl, ap, ◌∙◌}
 use Prim.Native.Nat.{suc}
-use borrow.Author.Rules.{rules}
 use native.Mathlib.Omega.{arith}
 use Rattle.rules.specs.Moves.{mark_position}
 use Rattle.rules.proofs.FirstMet.{entry}

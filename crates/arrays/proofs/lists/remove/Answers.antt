@@ -2,12 +2,11 @@
 -- for, and the last of the list and what stands behind it are as they were. The measure: the entries left.
 -- Assumes nothing.
 use mathlib.Core.Path.{◌≡◌, refl, sym, ◌∙◌}
-use Prim.Native.Nat.{suc, ◌-◌, ◌≤◌, ◌<◌}
-use lib.ListN.{length, length-set, drop, take}
+use Prim.Native.Nat.{suc, ◌-◌}
+use lib.ListN.{length-set}
 use lib.Seq.{drop-set-lt}
 use native.Mathlib.Omega.{arith}
 use Rattle.combinatorics.proofs.EditsOfArrays.{remove_forward, remove_last}
-use Rattle.combinatorics.specs.Edits.{remove_at}
 use Rattle.arrays.proofs.lists.remove.Goals as goal
 
 pub loop-k-init : goal.loop-k-init

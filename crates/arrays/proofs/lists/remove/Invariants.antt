@@ -1,12 +1,9 @@
 -- `lists::remove` meets its contract. The invariant: the entries less entry k are the old ones less the entry asked
 -- for, and the last of the list and what stands behind it are as they were. The measure: the entries left.
 -- Assumes nothing.
-use mathlib.Core.Path.{◌≡◌, refl, sym, ◌∙◌}
-use Prim.Native.Nat.{suc, ◌-◌, ◌≤◌, ◌<◌}
-use lib.ListN.{length, length-set, drop, take}
-use lib.Seq.{drop-set-lt}
-use native.Mathlib.Omega.{arith}
-use Rattle.combinatorics.proofs.EditsOfArrays.{remove_forward, remove_last}
+use mathlib.Core.Path.{◌≡◌}
+use Prim.Native.Nat.{◌-◌, ◌≤◌, ◌<◌}
+use lib.ListN.{length, drop, take}
 use Rattle.combinatorics.specs.Edits.{remove_at}
 use Rattle.arrays.proofs.lists.remove.Given as goal
 

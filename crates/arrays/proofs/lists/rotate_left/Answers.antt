@@ -1,7 +1,6 @@
 -- `lists::rotate_left_lem` meets its contract: what was first stands behind the list less its first. Assumes nothing.
 use mathlib.Core.Path.{◌≡◌, sym, ap, ◌∙◌}
 use Prim.Native.Nat.{suc, ◌+◌, ◌-◌, ◌<◌}
-use borrow.Author.Rules.{rules}
 use lib.ListN.{length, length-set, drop, get_or, take, set}
 use lib.Seq.{drop-drop, drop-set-lt, length-take-le, get_or-take, take-suc-set}
 use native.Mathlib.Omega.{arith}

@@ -1,7 +1,6 @@
 -- `lists::rotate_right_lem` meets its contract: the list less its last stands behind what was last. Assumes nothing.
 use mathlib.Core.Path.{◌≡◌, ◌∙◌}
 use Prim.Native.Nat.{suc, ◌+◌, ◌-◌}
-use borrow.Author.Rules.{rules}
 use lib.ListN.{drop, take}
 use native.Mathlib.Numerals.{add-one}
 use native.Mathlib.Omega.{arith}

@@ -1,6 +1,5 @@
 -- `mask::add` meets its contract. Assumes nothing.
 use mathlib.Core.Path.{refl}
-use borrow.Author.Rules.{rules}
 use Rattle.rules.specs.Mask.{with_index}
 use Rattle.arrays.proofs.mask.add.Goals as goal
 

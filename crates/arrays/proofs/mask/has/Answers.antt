@@ -1,7 +1,6 @@
 -- `mask::has` meets its contract: the lowest bit of a number is what is left of it by 2. Assumes nothing.
 use mathlib.Core.Path.{ap}
 use Prim.Native.Nat.{ℕ, ◌/◌, ◌^◌}
-use borrow.Author.Rules.{rules}
 use lib.Bits.{and_mask}
 use lib.Dec.{eqb}
 use Rattle.rules.specs.Mask.{bit}

@@ -1,6 +1,5 @@
 -- `mask::without` meets its contract. Assumes nothing.
 use mathlib.Core.Path.{refl}
-use borrow.Author.Rules.{rules}
 use Rattle.rules.specs.Mask.{without_index}
 use Rattle.arrays.proofs.mask.without.Goals as goal
 

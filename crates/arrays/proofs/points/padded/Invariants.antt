@@ -1,10 +1,8 @@
 -- `points::padded` meets its contract. The invariant: the first h numbers stand at the front. The measure: the numbers
 -- left. Assumes nothing.
-use mathlib.Core.Path.{◌≡◌, sym}
+use mathlib.Core.Path.{◌≡◌}
 use Prim.Native.Nat.{◌-◌, ◌≤◌}
 use lib.ListN.{length, take, replicate}
-use native.Mathlib.Omega.{arith}
-use Rattle.combinatorics.proofs.Fronts.{front-none, front-copy}
 use Rattle.combinatorics.specs.Front.{front}
 use Rattle.arrays.proofs.points.padded.Given as goal
 

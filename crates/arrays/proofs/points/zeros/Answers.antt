@@ -1,11 +1,8 @@
 -- `points::zeros` meets its contract. The invariant: the mask has the indices below h at which the point is 0. The
 -- measure: the indices left. Assumes nothing.
-use mathlib.Core.Logic.{⊎_elim}
 use mathlib.Core.Path.{◌≡◌, ◌∙◌}
-use Prim.Native.Nat.{◌-◌, ◌≤◌}
-use borrow.Author.Rules.{rules}
 use native.Mathlib.Omega.{arith}
-use Rattle.rules.proofs.ZeroMask.{ZerosBelow, no-zeros, zero_more, none_more}
+use Rattle.rules.proofs.ZeroMask.{no-zeros, zero_more, none_more}
 use Rattle.arrays.proofs.points.zeros.Goals as goal
 use Rattle.arrays.proofs.points.zeros.Goals.{then-y-h-eq0, else-y-h-eq0}
 

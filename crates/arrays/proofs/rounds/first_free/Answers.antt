@@ -1,15 +1,10 @@
 -- `rounds::first_free` meets its contract. The invariant: the way from here with the steps left meets what the whole
 -- way meets. The measure: the steps left. Assumes nothing.
-use mathlib.Core.List.{[]}
 use mathlib.Core.Path.{sym, ◌∙◌}
-use borrow.Author.Rules.{rules}
 use borrow.Author.Tests.{eq-eqb, ne_eqb}
 use lib.Dec.{eqb}
-use native.Mathlib.Omega.{arith}
 use Rattle.combinatorics.proofs.Basics.{or_left, or_right}
-use Rattle.arrays.specs.Rounds.{round_of}
-use Rattle.rules.specs.Moves.{first_free}
-use Rattle.rules.proofs.FirstMet.{Meeting, home_or_free, meets_begun, meets_here, meets_onward, meets_spent}
+use Rattle.rules.proofs.FirstMet.{meets_begun, meets_here, meets_onward, meets_spent}
 use Rattle.arrays.proofs.rounds.first_free.Goals as goal
 
 pub loop-left-init : goal.loop-left-init

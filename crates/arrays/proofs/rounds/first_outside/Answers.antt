@@ -2,10 +2,7 @@
 -- way meets. The measure: the steps left. Assumes nothing.
 use mathlib.Core.Bool.{false, not}
 use mathlib.Core.Path.{◌≡◌, sym, ap, ◌∙◌}
-use borrow.Author.Rules.{rules}
-use native.Mathlib.Omega.{arith}
-use Rattle.rules.specs.Moves.{first_outside}
-use Rattle.rules.proofs.FirstMet.{Meeting, meets_begun, meets_here, meets_onward, meets_spent, outside}
+use Rattle.rules.proofs.FirstMet.{meets_begun, meets_here, meets_onward, meets_spent, outside}
 use Rattle.arrays.proofs.rounds.first_outside.Goals as goal
 
 pub loop-left-init : goal.loop-left-init

@@ -1,11 +1,7 @@
 -- `rounds::first_outside` meets its contract. The invariant: the way from here with the steps left meets what the whole
 -- way meets. The measure: the steps left. Assumes nothing.
-use mathlib.Core.Bool.{false, not}
-use mathlib.Core.Path.{◌≡◌, sym, ap, ◌∙◌}
-use borrow.Author.Rules.{rules}
-use native.Mathlib.Omega.{arith}
 use Rattle.rules.specs.Moves.{first_outside}
-use Rattle.rules.proofs.FirstMet.{Meeting, meets_begun, meets_here, meets_onward, meets_spent, outside}
+use Rattle.rules.proofs.FirstMet.{Meeting, outside}
 use Rattle.arrays.proofs.rounds.first_outside.Given as goal
 
 abbrev pub invariant-loop-left : goal.invariant-loop-left

@@ -1,17 +1,12 @@
 -- `rounds::first_outside_or_zero` meets its contract. The invariant: the way from here with the steps left meets what
 -- the whole way meets. The measure: the steps left. Assumes nothing.
 use mathlib.Core.Bool.{true, not}
-use mathlib.Core.List.{[]}
 use mathlib.Core.Path.{◌≡◌, sym, ap, ◌∙◌}
-use borrow.Author.Rules.{rules}
-use borrow.Author.Tests.{eq-eqb, ne_eqb, not-false}
-use native.Mathlib.Omega.{arith}
+use borrow.Author.Tests.{eq-eqb, ne_eqb}
 use Rattle.combinatorics.proofs.Basics.{or_left, or_right}
 use Rattle.grid_points.specs.Grid.{at}
 use Rattle.rules.specs.Mask.{bit}
-use Rattle.arrays.specs.Rounds.{round_of}
-use Rattle.rules.specs.Moves.{first_outside_or_zero}
-use Rattle.rules.proofs.FirstMet.{Meeting, meets_begun, meets_here, meets_onward, meets_spent, outside_or_zero}
+use Rattle.rules.proofs.FirstMet.{meets_begun, meets_here, meets_onward, meets_spent}
 use Rattle.arrays.proofs.rounds.first_outside_or_zero.Goals as goal
 
 pub loop-left-init : goal.loop-left-init

@@ -1,6 +1,5 @@
 -- `rounds::in_neither` meets its contract. Assumes nothing.
 use mathlib.Core.Path.{sym, ◌∙◌}
-use borrow.Author.Rules.{rules}
 use Rattle.arrays.proofs.rounds.in_neither.Goals as goal
 
 pub returns-then-has : goal.returns-then-has

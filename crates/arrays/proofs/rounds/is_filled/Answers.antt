@@ -1,5 +1,4 @@
 -- `rounds::is_filled` meets its contract. Assumes nothing.
-use borrow.Author.Rules.{rules}
 use Rattle.arrays.proofs.rounds.is_filled.Goals as goal
 
 pub returns : goal.returns

@@ -2,14 +2,11 @@
 -- the whole way makes of the old ones, and none is 0 before it is lowered. The measure: the steps left.
 -- Assumes nothing.
 use mathlib.Core.Path.{refl}
-use Prim.Native.Nat.{pred}
-use borrow.Author.Rules.{rules}
 use borrow.Author.Tests.{ltb-true}
-use lib.Dec.{ltb}
 use native.Mathlib.Numerals.{sub-one}
 use native.Mathlib.Omega.{arith}
 use Rattle.grid_points.specs.Grid.{at}
-use Rattle.rules.proofs.ChangedBefore.{Changing, changed_all, changed_onward, changed_spent, tested_here}
+use Rattle.rules.proofs.ChangedBefore.{changed_all, changed_onward, changed_spent, tested_here}
 use Rattle.arrays.proofs.shifts.lower.Goals as goal
 
 pub loop-left-init : goal.loop-left-init

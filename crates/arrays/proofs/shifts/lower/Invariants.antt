@@ -1,15 +1,9 @@
 -- `shifts::lower` meets its contract. The invariant: what is left of the way makes of the present coefficients what
 -- the whole way makes of the old ones, and none is 0 before it is lowered. The measure: the steps left.
 -- Assumes nothing.
-use mathlib.Core.Path.{refl}
 use Prim.Native.Nat.{pred}
-use borrow.Author.Rules.{rules}
-use borrow.Author.Tests.{ltb-true}
 use lib.Dec.{ltb}
-use native.Mathlib.Numerals.{sub-one}
-use native.Mathlib.Omega.{arith}
-use Rattle.grid_points.specs.Grid.{at}
-use Rattle.rules.proofs.ChangedBefore.{Changing, changed_all, changed_onward, changed_spent, tested_here}
+use Rattle.rules.proofs.ChangedBefore.{Changing}
 use Rattle.arrays.proofs.shifts.lower.Given as goal
 
 abbrev pub invariant-loop-left : goal.invariant-loop-left

@@ -1,14 +1,8 @@
 -- `shifts::raise` meets its contract. The invariant: what is left of the way makes of the present coefficients what
 -- the whole way makes of the old ones, and within the width. The measure: the steps left. Assumes nothing.
-use mathlib.Core.Path.{refl}
 use Prim.Native.Nat.{suc}
-use borrow.Author.Rules.{rules}
-use borrow.Author.Tests.{ltb-true}
 use lib.Dec.{ltb}
-use native.Mathlib.Numerals.{add-one}
-use native.Mathlib.Omega.{arith}
-use Rattle.grid_points.specs.Grid.{at}
-use Rattle.rules.proofs.ChangedBefore.{Changing, changed_all, changed_onward, changed_spent, tested_here}
+use Rattle.rules.proofs.ChangedBefore.{Changing}
 use Rattle.arrays.proofs.shifts.raise.Given as goal
 
 abbrev pub invariant-loop-left : goal.invariant-loop-left

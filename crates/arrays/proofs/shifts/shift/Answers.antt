@@ -1,5 +1,4 @@
 -- `shifts::shift` meets its contract. What is taken from is positive also where 1 was added to it. Assumes nothing.
-use borrow.Author.Rules.{rules}
 use Rattle.rules.proofs.ChangedBefore.{raised-positive}
 use Rattle.arrays.proofs.shifts.shift.Goals as goal
 

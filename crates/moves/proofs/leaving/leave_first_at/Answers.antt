@@ -8,7 +8,6 @@ use Rattle.arrays.specs.Rounds.{round_of}
 use Rattle.moves.specs.Held.{state_of}
 use Rattle.rules.specs.Moves.{State, goes}
 use Rattle.moves.proofs.Cases.{same-state, first-ready, facet-end, U-gains, first-leaves}
-use borrow.Author.Rules.{rules}
 use mathlib.Core.List.{List}
 use Prim.Native.Nat.{ℕ}
 use Rattle.moves.proofs.leaving.leave_first_at.Goals as goal

@@ -12,7 +12,6 @@ use Rattle.rules.specs.Mask.{bit}
 use Rattle.rules.specs.Moves.{After, Round, State, goes, leave_last, shrink}
 use Rattle.moves.proofs.Cases.{T-loses, backward, beside_after, last-leaves, last-ready, last-to-U}
 use Rattle.moves.proofs.Cases.{same-state, shrink-beside}
-use borrow.Author.Rules.{rules}
 use Rattle.moves.proofs.leaving.leave_last_at.Goals as goal
 use Rattle.moves.proofs.leaving.leave_last_at.Goals.{After-first_outside_or_zero-b, Start}
 

@@ -1,7 +1,6 @@
 -- `leaving::leave_middle` meets its contract: rule 6 or rule 1. Assumes nothing.
 use mathlib.Core.Bool.{true}
 use mathlib.Core.List.{[]}
-use mathlib.Core.Logic.{⊎_elim}
 use mathlib.Core.Path.{◌≡◌, refl, ap, ◌∙◌}
 use Prim.Native.Nat.{◌-◌}
 use lib.ListN.{take}
@@ -13,7 +12,6 @@ use Rattle.grid_points.specs.Grid.{at}
 use Rattle.moves.specs.Held.{state_of}
 use Rattle.rules.specs.Moves.{State, goes}
 use Rattle.moves.proofs.Cases.{same-state, beside_after, shrink-beside, middle_to_U, steps-exchanged}
-use borrow.Author.Rules.{rules}
 use Rattle.moves.proofs.leaving.leave_middle.Goals as goal
 use Rattle.moves.proofs.leaving.leave_middle.Goals.{then-to-b+else-first-b-eq0, else-to-b}
 

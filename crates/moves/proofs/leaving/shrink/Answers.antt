@@ -6,7 +6,6 @@ use Rattle.arrays.specs.Rounds.{no_round}
 use Rattle.moves.specs.Held.{state_of}
 use Rattle.rules.specs.Moves.{State, goes, shrink}
 use Rattle.moves.proofs.Cases.{shrinks}
-use borrow.Author.Rules.{rules}
 use Rattle.moves.proofs.leaving.shrink.Goals as goal
 
 pub returns-then-joins : goal.returns-then-joins

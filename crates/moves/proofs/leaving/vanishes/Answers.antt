@@ -1,5 +1,4 @@
 -- `leaving::vanishes` meets its contract. Assumes nothing.
-use borrow.Author.Rules.{rules}
 use borrow.Author.Tests.{eq-eqb, ne_eqb}
 use Rattle.grid_points.specs.Grid.{at}
 use Rattle.moves.proofs.leaving.vanishes.Goals as goal

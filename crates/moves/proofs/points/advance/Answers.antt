@@ -1,10 +1,7 @@
 -- `advance` meets its contract. The invariant: y is the point after k steps. The measure: the steps left. Assumes
 -- nothing.
 use mathlib.Core.Path.{◌≡◌, ◌∙◌}
-use Prim.Native.Nat.{◌-◌, ◌≤◌}
-use borrow.Author.Rules.{rules}
 use native.Mathlib.Omega.{arith}
-use Rattle.rules.specs.Read.{point_after}
 use Rattle.rules.specs.Moves.{first_outside}
 use Rattle.rules.proofs.FirstMet.{entry-below}
 use Rattle.rules.proofs.PointsAfter.{after_none, after-one_more, after_taken, step_ready}

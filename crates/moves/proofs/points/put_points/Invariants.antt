@@ -1,18 +1,13 @@
 -- `put_points` meets its contract. The invariant: the points before number i stand at the front of the buffer. The
 -- measure: the points left. Assumes nothing.
 use mathlib.Core.List.{List}
-use mathlib.Core.Path.{◌≡◌, refl, sym, ap, ◌∙◌}
-use Prim.Native.Nat.{ℕ, suc, ◌-◌, ◌*◌, ◌≤◌}
+use mathlib.Core.Path.{◌≡◌}
+use Prim.Native.Nat.{ℕ, ◌-◌, ◌*◌, ◌≤◌}
 use lib.ListN.{length, take}
-use lib.Seq.{length-take-le}
-use native.Mathlib.Omega.{arith}
-use Rattle.combinatorics.proofs.Fronts.{front-none}
 use Rattle.combinatorics.specs.Front.{front}
-use Rattle.combinatorics.proofs.Lists.{row_room}
-use Rattle.rules.specs.Read.{point_after, ReadyPoint}
+use Rattle.rules.specs.Read.{point_after}
 use Rattle.rules.specs.Moves.{first_outside}
-use Rattle.rules.proofs.PointsAfter.{after_taken, few-ready, length-after, earlier-ready, in_row, same_rows}
-use Rattle.rules.proofs.PointsAfter.{next-position, row_put}
+use Rattle.rules.proofs.PointsAfter.{in_row}
 use Rattle.moves.proofs.points.put_points.Given as goal
 
 -- the first m numbers of point j

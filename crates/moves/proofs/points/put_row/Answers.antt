@@ -1,9 +1,8 @@
 -- `put_row` meets its contract. The invariant: the first h numbers are stored. The measure: the numbers left. Assumes
 -- nothing.
 use mathlib.Core.Path.{◌≡◌, refl}
-use Prim.Native.Nat.{◌+◌, ◌-◌, ◌≤◌}
-use lib.ListN.{length, length-set}
-use lib.Seq.{paste, paste-zero, paste-suc}
+use lib.ListN.{length-set}
+use lib.Seq.{paste-zero, paste-suc}
 use native.Mathlib.Numerals.{add-one}
 use native.Mathlib.Omega.{arith}
 use Rattle.moves.proofs.points.put_row.Goals as goal

@@ -1,11 +1,9 @@
 -- `put_row` meets its contract. The invariant: the first h numbers are stored. The measure: the numbers left. Assumes
 -- nothing.
-use mathlib.Core.Path.{◌≡◌, refl}
+use mathlib.Core.Path.{◌≡◌}
 use Prim.Native.Nat.{◌+◌, ◌-◌, ◌≤◌}
-use lib.ListN.{length, length-set}
-use lib.Seq.{paste, paste-zero, paste-suc}
-use native.Mathlib.Numerals.{add-one}
-use native.Mathlib.Omega.{arith}
+use lib.ListN.{length}
+use lib.Seq.{paste}
 use Rattle.moves.proofs.points.put_row.Given as goal
 
 abbrev pub invariant-loop-h : goal.invariant-loop-h

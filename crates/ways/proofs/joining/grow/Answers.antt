@@ -15,7 +15,6 @@ use Rattle.rules.specs.Mask.{bit}
 use Rattle.rules.specs.Moves.{State, goes, is_filled}
 use Rattle.moves.proofs.Cases.{joins-from-U, place_end, joins-from-outside}
 use Rattle.rules.proofs.Marks.{indices_in}
-use borrow.Author.Rules.{rules}
 use Rattle.ways.proofs.joining.grow.Goals as goal
 
 pub first_outside-b-requires : goal.first_outside-b-requires

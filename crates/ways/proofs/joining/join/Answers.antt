@@ -5,7 +5,6 @@ use lib.ListN.{take}
 use native.Mathlib.Numerals.{add-one}
 use Rattle.combinatorics.specs.Edits.{insert_at}
 use Rattle.moves.proofs.Cases.{same-state}
-use borrow.Author.Rules.{rules}
 use Rattle.ways.proofs.joining.join.Goals as goal
 
 pub returns : goal.returns

@@ -1,0 +1,43 @@
+// The calls that reads a trail, exported to C under their names, each with the promises of the library's own.
+#![tactic(auto)]
+
+ghost use Rattle.std.specs.Prelude.{[], ◌≡◌};
+ghost use Rattle.combinatorics.specs.Front.{front};
+ghost use Rattle.place.specs.Problem.{problem_of};
+ghost use Rattle.trail_reader.specs.Reading.{read_answer, read_points};
+ghost use Rattle.trail_reader_exports.specs.Read.{place_facts, read_number};
+
+// The place at a record of a trail: 0 where it is rebuilt, else the refusal's number. `place` has the number of points,
+// T and U as masks, bit h for index h + 1, and the labels read up to the place. The points' numbers, m each, stand at
+// the front of `points`, its old contents behind; a refusal changes neither buffer.
+#[unsafe(no_mangle)]
+pub extern "C" fn leveretplate_read_trail(
+    sizes: &[u8],
+    divisions: &[u16],
+    start: &[u16],
+    trail: &[u8],
+    record_number: u64,
+    points: &mut [u16; 256],
+    place: &mut [u64; 4],
+) -> u8
+    ensures number { let p = problem_of
+        sizes.now divisions.now start.now [] in
+        result ≡ read_number (read_answer p trail.now record_number) }
+    ensures points { let p = problem_of
+        sizes.now divisions.now start.now [] in
+        points.new ≡ read_points p trail.now record_number points.old }
+    ensures place { let p = problem_of
+        sizes.now divisions.now start.now [] in
+        place.new
+        ≡ front (place_facts (read_answer p trail.now record_number)) place.old }
+{
+    trail_reader_exports::leveretplate_read_trail(
+        sizes,
+        divisions,
+        start,
+        trail,
+        record_number,
+        points,
+        place,
+    )
+}
