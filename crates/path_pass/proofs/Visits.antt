@@ -2,17 +2,16 @@
 -- begins, its outcomes. Assumes nothing.
 use mathlib.Core.Bool.{true, false, ◌&&◌}
 use mathlib.Core.List.{List, [], map}
-use mathlib.Core.Logic.{◌⊎◌, ⊎_elim}
+use mathlib.Core.Logic.{⊎_elim}
 use mathlib.Core.Path.{◌≡◌, refl, sym, ap, ◌∙◌, subst}
 use Prim.Native.Nat.{ℕ, suc, ◌+◌, ◌-◌, ◌^◌, ◌≤◌, ◌<◌}
 use borrow.Author.Tests.{eq-eqb, lt-ltb, le-ltb, ne_eqb}
 use lib.Dec.{eqb, ltb}
-use lib.ListN.{length, replicate, set, take}
-use lib.Seq.{get_or-take, take-set-lt}
+use lib.ListN.{length, replicate, take}
+use lib.Seq.{get_or-take}
 use native.Mathlib.Omega.{arith}
 use Rattle.arrays.specs.Rounds.{round_of}
 use Rattle.combinatorics.proofs.Basics.{before_or_not, same_or}
-use Rattle.combinatorics.proofs.EditsOfArrays.{first-few}
 use Rattle.combinatorics.proofs.Lists.{all_in, in_all, in_map, map_in, on_numbers}
 use Rattle.combinatorics.proofs.Ranges.{in_up_from, up_from_in}
 use Rattle.combinatorics.specs.Lists.{is_in, sum, up_from}
@@ -41,11 +40,9 @@ use Rattle.rules.proofs.Follow.{at-exchanged, at_first, at_new, at_next, at_othe
 use Rattle.rules.proofs.Follow.{ends-answer}
 use Rattle.moves.specs.Held.{state_of}
 use Rattle.rules.specs.Mask.{bit}
-use Rattle.rules.specs.Read.{mark_of, point_in, points_from, read, CanCompute, Falling}
+use Rattle.rules.specs.Read.{mark_of, point_in, points_from, read, Falling}
 use Rattle.rules.specs.Ready.{IsRound, RoundBelow}
-use Rattle.rules.specs.Moves.{After, Round, State, mark, goes, ends_at_place, ends_at_facet, make_move, with_mark}
-use Rattle.moves.specs.declared.Outcome.{Outcome}
-use Rattle.moves.specs.declared.Outcome.TheVariants.{Moved, PlaceEnd, FacetEnd}
+use Rattle.rules.specs.Moves.{After, Round, State, mark, goes, ends_at_place, ends_at_facet, make_move}
 use Rattle.moves.specs.declared.Status.{Status}
 use Rattle.marks.specs.Reading.{label_reading, table_problem, CanReadPoint, HasMarks}
 use Rattle.marks.specs.declared.LookedUp.TheVariants.{Marked, Unknown as UnknownLabel}

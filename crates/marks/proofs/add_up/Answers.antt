@@ -3,7 +3,6 @@ use mathlib.Core.Path.{sym, ◌∙◌}
 use borrow.Author.Tests.{eq-eqb, ne_eqb, lt-ltb, le-ltb, le-leb, lt-leb}
 use native.Mathlib.Omega.{arith}
 use Rattle.grid.proofs.Fields.{indices-few}
-use borrow.Author.Rules.{rules}
 use Rattle.marks.proofs.add_up.Goals as goal
 
 pub returns-then-block_of : goal.returns-then-block_of

@@ -10,7 +10,6 @@ use Rattle.moves.specs.Held.{state_of}
 use Rattle.rules.specs.Read.{Exchanged, point_on}
 use Rattle.rules.specs.Moves.{State}
 use Rattle.marks.proofs.Readings.{at_right, corner-indices, corners_add, nothing_right}
-use borrow.Author.Rules.{rules}
 use Rattle.marks.proofs.by_square.Goals as goal
 use Rattle.marks.proofs.by_square.Goals.{After-position_at-then-add_up-2, Start}
 

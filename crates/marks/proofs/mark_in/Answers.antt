@@ -9,7 +9,6 @@ use Rattle.positions.proofs.Positions.{position-below}
 use Rattle.marks.proofs.Readings.{in_table, read-gap, read-mark}
 use Rattle.marks.specs.declared.LookedUp.TheVariants.{Marked, Unknown}
 use Rattle.rules.specs.Moves.{mark}
-use borrow.Author.Rules.{rules}
 use Rattle.marks.proofs.mark_in.Goals as goal
 use Rattle.marks.proofs.mark_in.Goals.{After-position_in-at}
 

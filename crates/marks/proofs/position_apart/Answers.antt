@@ -2,7 +2,6 @@
 -- Assumes nothing.
 use mathlib.Core.Path.{refl}
 use Rattle.marks.proofs.Readings.{has-order}
-use borrow.Author.Rules.{rules}
 use Rattle.marks.proofs.position_apart.Goals as goal
 
 pub by_step_to-found-requires : goal.by_step_to-found-requires

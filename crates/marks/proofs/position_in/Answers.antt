@@ -7,7 +7,6 @@ use Rattle.grid.specs.Made.{shape}
 use Rattle.moves.specs.Held.{state_of}
 use Rattle.rules.specs.Read.{Exchanged}
 use Rattle.marks.proofs.Readings.{between_means, has-order}
-use borrow.Author.Rules.{rules}
 use Rattle.marks.proofs.position_in.Goals as goal
 use Rattle.marks.proofs.position_in.Goals.{Then-is_between}
 

@@ -1,8 +1,4 @@
 -- `path_pass::ended` meets its contract. Assumes nothing.
-use mathlib.Core.Path.{ap, sym}
-use borrow.Author.Rules.{rules}
-use Rattle.moves.specs.declared.Outcome.{Outcome}
-use Rattle.path_pass.specs.Finish.{ended_of}
 use Rattle.path_pass.proofs.ended.Goals as goal
 
 pub returns-in-PlaceEnd : goal.returns-in-PlaceEnd

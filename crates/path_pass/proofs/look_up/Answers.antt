@@ -8,7 +8,6 @@ use Rattle.arrays.specs.Rounds.{round_of}
 use Rattle.path_pass.proofs.Visits.{marked-known, unknown-zero}
 use Rattle.marks.specs.Reading.{table_problem}
 use Rattle.path_pass.proofs.Places.{looked_none, looked_some}
-use borrow.Author.Rules.{rules}
 use Rattle.path_pass.proofs.look_up.Goals as goal
 
 pub mark_in-reading-requires : goal.mark_in-reading-requires

@@ -1,6 +1,4 @@
 -- `path_pass::on` meets its contract. Assumes nothing.
-use borrow.Author.Rules.{rules}
-use native.Mathlib.Omega.{arith}
 use Rattle.path_pass.proofs.on.Goals as goal
 
 pub returns : goal.returns

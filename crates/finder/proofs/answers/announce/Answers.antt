@@ -1,7 +1,6 @@
 -- `finder::answers::announce` meets its contract: the vertices of an end are put into the buffer. Assumes nothing.
-use mathlib.Core.Path.{refl, sym}
+use mathlib.Core.Path.{sym}
 use Rattle.combinatorics.proofs.Fronts.{front-none}
-use Rattle.finder.specs.Finishes.{CanAnnounceEnd}
 use borrow.Author.Rules.{rules}
 use Rattle.finder.proofs.answers.announce.Goals as goal
 

@@ -7,7 +7,6 @@ use Rattle.combinatorics.specs.Front.{front}
 use Rattle.path_pass.proofs.Visits.{is-round, round-below}
 use Rattle.finder.proofs.Announcements.{can_announce, can_pad, can_pass, finish_told, finish_written}
 use Rattle.finder.proofs.Announcements.{finished_from, FinishedBy}
-use borrow.Author.Rules.{rules}
 use Rattle.finder.proofs.answers.announced.Goals as goal
 use Rattle.finder.proofs.answers.announced.Goals.{After-pass-finish}
 

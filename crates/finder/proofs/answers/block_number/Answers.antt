@@ -1,5 +1,4 @@
 -- `finder::answers::block_number` meets its contract: there are at most six blocks. Assumes nothing.
-use borrow.Author.Rules.{rules}
 use native.Mathlib.Omega.{arith}
 use Rattle.grid.proofs.Fields.{blocks-range, made-blocks, made-indices}
 use Rattle.grid_points.proofs.Round.{block_spans}

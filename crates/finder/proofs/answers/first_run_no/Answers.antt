@@ -1,8 +1,6 @@
 -- `finder::answers::first_run_no` meets its contract: each exit is the first question that is answered no. Assumes
 -- nothing.
 use mathlib.Core.Path.{sym, ◌∙◌}
-use borrow.Author.Rules.{rules}
-use borrow.Author.Tests.{not-false, not-true}
 use native.Mathlib.Omega.{arith}
 use Rattle.grid.proofs.Fields.{indices-few, made-indices, made-points}
 use Rattle.marks.specs.Reading.{problem_from}

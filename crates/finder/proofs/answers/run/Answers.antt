@@ -1,7 +1,6 @@
 -- `finder::answers::run` meets its contract: questions 1 to 4, and then the run on the grid that they let through.
 -- Assumes nothing.
 use mathlib.Core.Path.{◌≡◌, sym, ◌∙◌, subst}
-use borrow.Author.Rules.{rules}
 use lib.ListN.{length}
 use Rattle.grid.proofs.Fields.{made_code, made-is}
 use Rattle.grid_points.specs.Grid.{Grid}

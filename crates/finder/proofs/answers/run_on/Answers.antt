@@ -1,7 +1,6 @@
 -- `finder::answers::run_on` meets its contract: the questions in their order, and then the answer of the path.
 -- Assumes nothing.
 use mathlib.Core.Path.{sym, ◌∙◌}
-use borrow.Author.Rules.{rules}
 use lib.ListN.{length}
 use Rattle.marks.specs.Reading.{problem_from}
 use Rattle.finder.proofs.Refusals.{accepted-with_room, answered, by_later, refused}

@@ -6,7 +6,6 @@ use native.Mathlib.Omega.{arith}
 use lib.ListN.{length, set, length-set}
 use Rattle.combinatorics.proofs.Fronts.{front-none}
 use Rattle.combinatorics.specs.Front.{front}
-use borrow.Author.Rules.{rules}
 use Rattle.finder.proofs.FiveFacts.{five}
 use Rattle.finder.proofs.facts.put_answer.Goals as goal
 

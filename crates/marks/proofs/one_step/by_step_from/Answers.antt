@@ -13,7 +13,6 @@ use Rattle.rules.specs.Read.{FallsBeside, point_on, position_at, source_at, step
 use Rattle.rules.specs.Moves.{State}
 use Rattle.marks.proofs.OneStep.{before-far, far-low, lag_is, lag_by, weigh_far}
 use Rattle.marks.proofs.Readings.{at_right, nothing_right}
-use borrow.Author.Rules.{rules}
 use Rattle.marks.proofs.one_step.by_step_from.Goals as goal
 use Rattle.marks.proofs.one_step.by_step_from.Goals.{After-fall_at, After-gone_round-lag, After-position_at-far, Start, Then-b-h}
 

@@ -12,7 +12,6 @@ use Rattle.rules.specs.Read.{FallsBeside, point_on, source_at, step_at}
 use Rattle.rules.specs.Moves.{State}
 use Rattle.marks.proofs.OneStep.{after-near, lag_is, lag_by, weigh_near}
 use Rattle.marks.proofs.Readings.{at_right, nothing_right}
-use borrow.Author.Rules.{rules}
 use Rattle.marks.proofs.one_step.by_step_to.Goals as goal
 use Rattle.marks.proofs.one_step.by_step_to.Goals.{After-fall_at, After-gone_round-lag, Start, Then-b-h}
 

@@ -2,7 +2,6 @@
 -- coefficients tell. Assumes nothing.
 use native.Mathlib.Omega.{arith}
 use Rattle.grid.proofs.Fields.{indices-few}
-use borrow.Author.Rules.{rules}
 use Rattle.marks.proofs.one_step.fall_at.Goals as goal
 
 pub offset_bounds-tails-h : goal.offset_bounds-tails-h
