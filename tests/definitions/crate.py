@@ -80,7 +80,7 @@ def main():
     with open(os.path.join(folder, "proofs", "Lib.antt"), "w") as file:
         file.write("".join("pub mod {}\n".format(name) for name in modules))
     with open(os.path.join(folder, "src", "lib.rt"), "w") as file:
-        file.write("// Theorems about the definitions; no function.\n")
+        file.write("// Theorems about the definitions; no function.\n#![tactic(auto)]\n")
     print(len(lines), "rows in", len(modules), "modules")
 
 

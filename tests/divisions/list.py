@@ -30,8 +30,8 @@ REASONS = {
 
 
 def crates():
-    names = [line.split(":")[0].strip() for line in (ROOT / "crates.txt").read_text().splitlines()]
-    return [name for name in names if name and not name.startswith("#")]
+    lines = (ROOT / "crates.txt").read_text().splitlines()
+    return [line.split(":")[0].split()[0] for line in lines if line and not line.startswith("#")]
 
 
 def counts(crate):

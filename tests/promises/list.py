@@ -29,13 +29,13 @@ CALLS = {
     "walk_preview": ["preview"],
     "walk_views": ["at_start", "turned", "points"],
     "shelf": ["file", "current"],
-    "exports": ["leveretplate_run", "leveretplate_label", "leveretplate_boundary", "leveretplate_refine",
-                "leveretplate_check", "leveretplate_sheet", "leveretplate_file", "leveretplate_current"],
-    "nearest_exports": ["leveretplate_nearest"],
-    "trail_writer_exports": ["leveretplate_run_with_trail"],
-    "trail_reader_exports": ["leveretplate_read_trail"],
-    "walk_exports": ["leveretplate_walk_at_start", "leveretplate_move_on", "leveretplate_preview",
-                     "leveretplate_walk_points"],
+    "exports_c": ["leveretplate_run", "leveretplate_label", "leveretplate_boundary", "leveretplate_refine",
+                  "leveretplate_check", "leveretplate_sheet", "leveretplate_file", "leveretplate_current"],
+    "nearest_exports_c": ["leveretplate_nearest"],
+    "trail_writer_exports_c": ["leveretplate_run_with_trail"],
+    "trail_reader_exports_c": ["leveretplate_read_trail"],
+    "walk_exports_c": ["leveretplate_walk_at_start", "leveretplate_move_on", "leveretplate_preview",
+                       "leveretplate_walk_points"],
 }
 
 WORD = re.compile(r"[^\s(){}\[\],;λ→∷×≡.«»←⟦⟧=:|]+")
