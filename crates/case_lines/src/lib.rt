@@ -3,7 +3,7 @@
 // read or printed, so those here say of a count that it lies within its list, and the functions that print say nothing.
 #![tactic(auto)]
 
-ghost use Rattle.std.specs.Prelude.{◌≤◌};
+ghost use Rattle.std.specs.Prelude.{◌≡◌, ◌≤◌, length};
 ghost use Rattle.std.specs.Io.{ReadsAtMost};
 ghost use Rattle.std.specs.Counts.{IsPrefixLen};
 
@@ -19,7 +19,7 @@ fn smaller(a: usize, b: usize) -> usize
     if a < b { a } else { b }
 }
 
-// The next bytes, as many as the list has. Where the input ends before, the rest of the list stays as it is.
+// The next bytes, as many as the list has. Where the input ends before, the rest of the list is what the reader left.
 fn fill(rt: &impl Input, list: &mut [u8]) -> io::Result<()> {
     match rt.reader().read_exact(list) {
         Err(error) if error.kind() == ErrorKind::UnexpectedEof => Ok(()),
@@ -41,7 +41,7 @@ pub fn within(length: usize, list: &[u8]) -> usize
     smaller(length, list.len())
 }
 
-// The next number as a length within the list.
+// The next number as a length within the list. An error leaves nothing but itself, since the list is only looked at.
 pub fn byte_room(rt: &impl Input, list: &[u8]) -> io::Result<usize>
     ensures { ReadsAtMost result list.now }
 {
@@ -55,9 +55,11 @@ pub fn word_room(rt: &impl Input, list: &[u16]) -> io::Result<usize>
     Ok(smaller(number(rt)? as usize, list.len()))
 }
 
-// The next list, of bytes, to the front of the one lent: how many it has.
+// The next list, of bytes, to the front of the one lent: how many it has. After an error the list lent has its length,
+// and nothing is said of its bytes.
 pub fn bytes(rt: &impl Input, list: &mut [u8]) -> io::Result<usize>
-    ensures { ReadsAtMost result list.new }
+    ensures count { ReadsAtMost result list.new }
+    ensures long { length list.new ≡ length list.old }
 {
     let count = byte_room(rt, list)?;
     fill(rt, &mut list[..count])?;
@@ -72,9 +74,10 @@ fn word(rt: &impl Input) -> io::Result<u16> {
     Ok(read[0])
 }
 
-// The next list, of numbers of 16 bits.
+// The next list, of numbers of 16 bits, with what is said of one of bytes.
 pub fn words(rt: &impl Input, list: &mut [u16]) -> io::Result<usize>
-    ensures { ReadsAtMost result list.new }
+    ensures count { ReadsAtMost result list.new }
+    ensures long { length list.new ≡ length list.old }
 {
     let count = word_room(rt, list)?;
     for entry in &mut list[..count] {

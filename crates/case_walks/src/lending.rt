@@ -48,7 +48,8 @@ pub fn pointed(s: Answered, labels: &[u8]) -> Answered
     to
 }
 
-// The thin function that takes the walk itself: what it tells is printed.
+// The thin function that takes the walk itself: what it tells is printed. Where that cannot be printed, the error is
+// the answer, and no walk is given back: the caller still has its own.
 pub fn lent(rt: &impl Print, w: Walk, labels: &[u8]) -> io::Result<Walk>
     ensures { IfOk result (λ walk. walk ≡ (call_of w labels.now).walk) }
 {

@@ -1,4 +1,4 @@
-// The calls of the nearest vertex, exported to C under their names, each with the promises of the library's own.
+// The call of the nearest vertex, exported to C under its name, with the promises of the library's own.
 #![tactic(auto)]
 
 ghost use Rattle.std.specs.Prelude.{◌≡◌, length};

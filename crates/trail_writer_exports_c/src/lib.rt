@@ -1,4 +1,4 @@
-// The calls that writes a trail, exported to C under their names, each with the promises of the library's own.
+// The call that writes a trail, exported to C under its name, with the promises of the library's own.
 #![tactic(auto)]
 
 ghost use Rattle.std.specs.Prelude.{◌≡◌, length};
