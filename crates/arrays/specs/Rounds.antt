@@ -2,7 +2,7 @@
 use Rattle.std.specs.Prelude.{List, [], ℕ}
 use Rattle.std.specs.Borrow.{Bor, MutBor}
 use denote.Triple.Both.{Both}
-use Rattle.rules.specs.Moves.{Round}
+use Rattle.rules.specs.declared.Round.{Round}
 
 -- a lent array that a call reads, and one that it writes, as an `ensures` sees it
 abbrev pub Lent : Type 0

@@ -3,7 +3,6 @@
 // state of a run.
 #![tactic(auto)]
 
-mod going;
 mod lists;
 mod mask;
 mod points;
@@ -11,10 +10,11 @@ mod rounds;
 mod shifts;
 mod sizes;
 
-pub use going::{go_back, go_forward};
-pub use lists::{exchange, find, index_at, insert, label_in, position_at, remove, wide32};
+pub use lists::{
+    exchange, find, index_at, insert, label_in, position_at, remove, rotate_left, rotate_right,
+};
 pub use mask::{add, has, without};
 pub use points::{padded, zeros};
 pub use rounds::{first_outside, first_outside_or_zero, in_neither, is_filled};
-pub use shifts::shift;
+pub use shifts::{lower, raise, shift};
 pub use sizes::block_sizes;

@@ -5,18 +5,12 @@ ghost use Rattle.grid_points.specs.Grid.{at};
 ghost use Rattle.rules.specs.Ready.{HasEntry, IsEntry};
 ghost use Rattle.rules.specs.Moves.{mark_label, mark_position};
 
-pub fn wide32(x: u32) -> usize
-    ensures { result ≡ x }
-{
-    x as usize
-}
-
 // Entry e of the first n: an index.
 pub fn index_at(order: &[u32; 16], n: usize, e: usize) -> usize
     requires { HasEntry order.now n e }
     ensures { IsEntry order.now n e result }
 {
-    wide32(order[e])
+    order[e] as usize
 }
 
 // The label in a mark. Of an index of the order it is the index itself.
@@ -30,7 +24,7 @@ pub fn label_in(mark: u32) -> u32
 fn mark_position(mark: u32) -> usize
     ensures { (result ≡ mark_position mark) × (result < 16777216) }
 {
-    wide32(mark >> 8)
+    (mark >> 8) as usize
 }
 
 // The position in mark i of the first n + 1.
@@ -43,38 +37,31 @@ pub fn position_at(marks: &[u32; 16], n: usize, i: usize) -> usize
 
 // x put before entry at of the first n; the entries behind the first n + 1 stay.
 pub fn insert(a: &mut [u32; 16], n: usize, at: usize, x: u32)
-    requires { (at ≤ n) × (n ≤ 15) × (length a.old ≡ 16) }
+    requires { (at ≤ n) × (n ≤ 15) }
     ensures { (take (n + 1) a.new ≡ insert_at at x (take n a.old))
-        × (length a.new ≡ 16)
         × (drop (n + 1) a.new ≡ drop (n + 1) a.old) }
 {
-    let mut k = n;
-    while at < k {
-        a[k] = a[k - 1];
-        k -= 1;
+    for k in (at..n).rev() {
+        a[k + 1] = a[k];
     }
     a[at] = x;
 }
 
 // Entry at of the first n taken out; the entries from the last of them on stay, so that one stands there still.
 pub fn remove(a: &mut [u32; 16], n: usize, at: usize)
-    requires { (at < n) × (n ≤ 16) × (length a.old ≡ 16) }
+    requires { (at < n) × (n ≤ 16) }
     ensures { (take (n - 1) a.new ≡ remove_at at (take n a.old))
-        × (length a.new ≡ 16)
         × (drop (n - 1) a.new ≡ drop (n - 1) a.old) }
 {
-    let mut k = at;
-    while k + 1 < n {
+    for k in at..n - 1 {
         a[k] = a[k + 1];
-        k += 1;
     }
 }
 
 // The first of the first n goes behind the others; the entries behind the first n stay.
 pub fn rotate_left(a: &mut [u32; 16], n: usize)
-    requires { (0 < n) × (n ≤ 16) × (length a.old ≡ 16) }
+    requires { (0 < n) × (n ≤ 16) }
     ensures { (take n a.new ≡ rotate_left (take n a.old))
-        × (length a.new ≡ 16)
         × (drop n a.new ≡ drop n a.old) }
 {
     let x = a[0];
@@ -84,9 +71,8 @@ pub fn rotate_left(a: &mut [u32; 16], n: usize)
 
 // The last of the first n goes before the others; the entries behind the first n stay.
 pub fn rotate_right(a: &mut [u32; 16], n: usize)
-    requires { (0 < n) × (n ≤ 16) × (length a.old ≡ 16) }
+    requires { (0 < n) × (n ≤ 16) }
     ensures { (take n a.new ≡ rotate_right (take n a.old))
-        × (length a.new ≡ 16)
         × (drop n a.new ≡ drop n a.old) }
 {
     let x = a[n - 1];
@@ -95,31 +81,22 @@ pub fn rotate_right(a: &mut [u32; 16], n: usize)
 
 // Entries i and i + 1 change places.
 pub fn exchange(a: &mut [u32; 16], i: usize)
-    requires { (i + 1 < 16) × (length a.old ≡ 16) }
-    ensures { (a.new ≡ swap_at i a.old) × (length a.new ≡ 16) }
+    requires { i + 1 < 16 }
+    ensures { a.new ≡ swap_at i a.old }
 {
-    let x = a[i];
-    a[i] = a[i + 1];
-    a[i + 1] = x;
+    a.swap(i, i + 1);
 }
 
 // The first of the first n marks that has the label x, entry but passed over; n if there is none. The order has its
 // indices as labels.
 pub fn find(a: &[u32; 16], n: usize, x: u32, but: usize) -> usize
-    requires { (n ≤ 16) × (length a.now ≡ 16) }
+    requires { n ≤ 16 }
     ensures { result ≡ found x but (map mark_label (take n a.now)) }
 {
-    let mut k: usize = 0;
-    let i = loop {
-        if k == n {
-            break k;
+    for k in 0..n {
+        if label_in(a[k]) == x && k != but {
+            return k;
         }
-        if label_in(a[k]) == x {
-            if k != but {
-                break k;
-            }
-        }
-        k += 1;
-    };
-    i
+    }
+    n
 }

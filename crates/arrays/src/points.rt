@@ -12,11 +12,7 @@ pub fn padded(y: &[u16], m: usize) -> [u16; 16]
     ensures { result ≡ front (take m y.now) (replicate 16 0) }
 {
     let mut a = [0u16; 16];
-    let mut h: usize = 0;
-    while h < m {
-        a[h] = y[h];
-        h += 1;
-    }
+    a[..m].copy_from_slice(&y[..m]);
     a
 }
 
@@ -26,12 +22,10 @@ pub fn zeros(y: &[u16; 16], m: usize) -> u16
     ensures { (k : ℕ) → k < 16 → bit result k ≡ (ltb k m && eqb (at y.now k) 0) }
 {
     let mut u: u16 = 0;
-    let mut h: usize = 0;
-    while h < m {
+    for h in 0..m {
         if y[h] == 0 {
             u = add(u, h);
         }
-        h += 1;
     }
     u
 }

@@ -4,16 +4,14 @@ ghost use Rattle.grid_points.specs.Grid.{at};
 ghost use Rattle.rules.specs.Ready.{IndicesBelow, tested_before};
 ghost use Rattle.rules.specs.Moves.{shifted, changed_before};
 
-use grid::wide;
-
 // 1 more at h, 1 less at b.
 pub fn shift(y: &mut [u16; 16], h: usize, b: usize)
     requires h_bound { (h < 16) × (b < 16) }
     requires h_bound_2 { (at y.old h < 65535) × (1 ≤ at y.old b) }
     ensures { y.new ≡ shifted y.old h b }
 {
-    y[h] = y[h] + 1;
-    y[b] = y[b] - 1;
+    y[h] += 1;
+    y[b] -= 1;
 }
 
 // The coefficients of h and of the indices going back from it before b, each raised by 1.
@@ -23,14 +21,12 @@ pub fn raise(c: &mut [u16; 16], previous: &[u8; 16], h: usize, b: usize)
     ensures { c.new ≡ changed_before suc previous.now b 16 h c.old }
 {
     let mut at = h;
-    let mut left: usize = 16;
-    while 0 < left {
+    for _ in 0..c.len() {
         if at == b {
             break;
         }
-        c[at] = c[at] + 1;
-        at = wide(previous[at]);
-        left -= 1;
+        c[at] += 1;
+        at = usize::from(previous[at]);
     }
 }
 
@@ -41,13 +37,11 @@ pub fn lower(c: &mut [u16; 16], previous: &[u8; 16], h: usize, b: usize)
     ensures { c.new ≡ changed_before pred previous.now b 16 h c.old }
 {
     let mut at = h;
-    let mut left: usize = 16;
-    while 0 < left {
+    for _ in 0..c.len() {
         if at == b {
             break;
         }
-        c[at] = c[at] - 1;
-        at = wide(previous[at]);
-        left -= 1;
+        c[at] -= 1;
+        at = usize::from(previous[at]);
     }
 }

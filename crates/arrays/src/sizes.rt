@@ -3,22 +3,16 @@ ghost use Rattle.std.specs.Prelude.{◌≡◌, ℕ, ◌<◌};
 ghost use Rattle.grid_points.specs.Grid.{at, size, block_of};
 ghost use Rattle.grid.specs.Made.{IsMade, shape};
 
-use grid::{Grid, wide};
+use grid::Grid;
 
 // The size of the block of each index.
 pub fn block_sizes(g: Grid) -> [u8; 16]
     requires { IsMade g }
     ensures { (h : ℕ) → h < g.indices → at result h ≡ size (shape g) (block_of (shape g) h) }
 {
-    let m = g.indices;
-    let sizes = g.sizes;
-    let block = g.block;
     let mut a = [0u8; 16];
-    let mut h: usize = 0;
-    while h < m {
-        let j = wide(block[h]);
-        a[h] = sizes[j];
-        h += 1;
+    for h in 0..g.indices {
+        a[h] = g.sizes[usize::from(g.block[h])];
     }
     a
 }

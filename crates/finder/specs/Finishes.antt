@@ -12,7 +12,8 @@ use Rattle.path_pass.specs.declared.Finish.{Finish}
 use Rattle.path_pass.specs.declared.Finish.TheVariants.{Ended, Spent as BudgetSpent, Unknown as UnknownLabel}
 use Rattle.moves.specs.Room.{CanPut}
 use Rattle.rules.specs.Read.{numbers_from}
-use Rattle.rules.specs.Moves.{Round, State}
+use Rattle.rules.specs.Moves.{State}
+use Rattle.rules.specs.declared.Round.{Round}
 use Rattle.finder.specs.declared.answers.RunAnswer.{RunAnswer}
 use Rattle.finder.specs.declared.answers.RunAnswer.TheVariants.{End, Spent, Unknown}
 

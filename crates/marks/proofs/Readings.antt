@@ -24,7 +24,8 @@ use Rattle.place.specs.Problem.{label}
 use Rattle.rules.proofs.PointsAfter.{after_taken, counts_add, counts_ready, few-ready, length-after}
 use Rattle.moves.specs.Held.{state_of}
 use Rattle.rules.specs.Read.{Exchanged, ReadyPoint, point_after, point_on, position_at, step_at}
-use Rattle.rules.specs.Moves.{State, Round, mark, source, source_in}
+use Rattle.rules.specs.Moves.{State, mark, source, source_in}
+use Rattle.rules.specs.declared.Round.{Round}
 use Rattle.moves.specs.declared.Status.{Status}
 use Rattle.marks.specs.Reading.{Readable, CanFind, CanReadPoint, HasOrder, add_up, is_between, label_reading}
 use Rattle.marks.specs.Reading.{table_problem}

@@ -8,7 +8,8 @@ use Rattle.grid.specs.declared.Grid.{Grid as GridStruct}
 use Rattle.place.specs.Problem.{Problem, label}
 use Rattle.rules.specs.Ready.{IndicesBelow}
 use Rattle.rules.specs.Read.{mark_of, point_on, Exchanged, FallsBeside, CanCompute}
-use Rattle.rules.specs.Moves.{Round, State}
+use Rattle.rules.specs.Moves.{State}
+use Rattle.rules.specs.declared.Round.{Round}
 use Rattle.moves.specs.Held.{state_of}
 use Rattle.moves.specs.declared.Status.{Status}
 use Rattle.marks.specs.declared.LookedUp.{LookedUp}

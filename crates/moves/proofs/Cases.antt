@@ -18,7 +18,8 @@ use Rattle.rules.proofs.FirstMet.{entry}
 use Rattle.rules.specs.Mask.{bit, with_index, without_index}
 use Rattle.moves.specs.Held.{state_of, answered}
 use Rattle.rules.specs.Ready.{tested_before, SixteenEach, ReadyFirst, ReadyLast, ReadyLeave, ReadyGrow, label_in, Ready}
-use Rattle.rules.specs.Moves.{State, Round, After, goes, ends_at_place, ends_at_facet, mark_label, first_outside, source_in}
+use Rattle.rules.specs.Moves.{State, After, goes, ends_at_place, ends_at_facet, mark_label, first_outside, source_in}
+use Rattle.rules.specs.declared.Round.{Round}
 use Rattle.rules.specs.Moves.{first_outside_or_zero, is_filled, shifted, changed_before, shrink, joined, grow, leave_first}
 use Rattle.rules.specs.Moves.{leave_middle, leave_last, leave, make_move}
 use Rattle.moves.specs.declared.Outcome.{Outcome}

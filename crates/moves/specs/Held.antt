@@ -3,7 +3,8 @@ use Rattle.std.specs.Prelude.{List, ◌≡◌, ℕ, suc, ◌-◌, ◌≤◌, ◌
 use Rattle.arrays.specs.Rounds.{LentBoth}
 use Rattle.grid_points.specs.Grid.{at}
 use Rattle.rules.specs.Ready.{IndicesBelow, RoundBelow, SixteenEach, Ready, ReadyGrow}
-use Rattle.rules.specs.Moves.{State, Round, After, goes, ends_at_place, ends_at_facet, source_in, joined}
+use Rattle.rules.specs.Moves.{State, After, goes, ends_at_place, ends_at_facet, source_in, joined}
+use Rattle.rules.specs.declared.Round.{Round}
 use Rattle.moves.specs.declared.Outcome.{Outcome}
 use Rattle.moves.specs.declared.Outcome.TheVariants.{Moved, PlaceEnd, FacetEnd}
 use Rattle.moves.specs.declared.Status.{Status}

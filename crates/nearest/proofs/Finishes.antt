@@ -10,7 +10,7 @@ use Rattle.path_pass.specs.declared.Finish.{Finish}
 use Rattle.path_pass.specs.declared.Finish.TheVariants.{Ended, Spent, Unknown}
 use Rattle.place.specs.Path.{answer}
 use Rattle.place.specs.Problem.{Problem}
-use Rattle.rules.specs.Moves.{Round}
+use Rattle.rules.specs.declared.Round.{Round}
 use Rattle.nearest_pass.specs.Survey.{Surveys}
 use Rattle.nearest_pass.specs.declared.Nearest.{Nearest}
 use Rattle.nearest_visited.specs.Nearest.{positions_within}

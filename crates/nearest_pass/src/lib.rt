@@ -3,7 +3,6 @@
 
 ghost use Rattle.std.specs.Prelude.{◌≡◌, ◌≤◌, ◌<◌};
 ghost use Rattle.arrays.specs.Rounds.{round_of};
-ghost use Rattle.rules.specs.Moves.{Round};
 ghost use Rattle.path_pass.specs.Finish.{CanPass, Finished, ended_of, problem_in};
 ghost use Rattle.nearest_pass.specs.Survey.{CanNote, Surveys, none_met};
 

@@ -23,7 +23,8 @@ use Rattle.place.specs.Problem.{Problem}
 use Rattle.rules.proofs.Follow.{NextAt}
 use Rattle.rules.specs.Read.{read}
 use Rattle.rules.specs.Ready.{IsRound, RoundBelow}
-use Rattle.rules.specs.Moves.{Round, State, make_move}
+use Rattle.rules.specs.Moves.{State, make_move}
+use Rattle.rules.specs.declared.Round.{Round}
 use Rattle.path_pass.specs.Finish.{CanVisit, Finished, HasBegun, IsKnown, IsUnknown, ended_of, labels_at, on_of}
 use Rattle.path_pass.specs.Finish.{problem_in}
 use Rattle.path_pass.specs.Looking.{LooksUp}

@@ -16,7 +16,8 @@ use Rattle.moves.specs.declared.Status.{Status}
 use Rattle.place.specs.Problem.{Problem}
 use Rattle.rules.specs.Read.{mark_of, point_in, read}
 use Rattle.rules.specs.Ready.{Ready, SixteenEach}
-use Rattle.rules.specs.Moves.{Round, State, with_mark}
+use Rattle.rules.specs.Moves.{State, with_mark}
+use Rattle.rules.specs.declared.Round.{Round}
 use Rattle.path_pass.specs.Looking.{LooksUp}
 use Rattle.path_pass.specs.declared.Looked.TheVariants.{Known}
 

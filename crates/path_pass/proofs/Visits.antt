@@ -42,7 +42,8 @@ use Rattle.moves.specs.Held.{state_of}
 use Rattle.rules.specs.Mask.{bit}
 use Rattle.rules.specs.Read.{mark_of, point_in, points_from, read, Falling}
 use Rattle.rules.specs.Ready.{IsRound, RoundBelow}
-use Rattle.rules.specs.Moves.{After, Round, State, mark, goes, ends_at_place, ends_at_facet, make_move}
+use Rattle.rules.specs.Moves.{After, State, mark, goes, ends_at_place, ends_at_facet, make_move}
+use Rattle.rules.specs.declared.Round.{Round}
 use Rattle.moves.specs.declared.Status.{Status}
 use Rattle.marks.specs.Reading.{label_reading, table_problem, CanReadPoint, HasMarks}
 use Rattle.marks.specs.declared.LookedUp.TheVariants.{Marked, Unknown as UnknownLabel}

@@ -13,7 +13,8 @@ use Rattle.moves.specs.Held.{state_of}
 use Rattle.rules.specs.Mask.{bit}
 use Rattle.rules.specs.Ready.{IsRound, RoundBelow, Ready}
 use Rattle.rules.specs.Read.{point_in, points_from, read, CanCompute}
-use Rattle.rules.specs.Moves.{Round, State}
+use Rattle.rules.specs.Moves.{State}
+use Rattle.rules.specs.declared.Round.{Round}
 use Rattle.moves.specs.declared.Outcome.{Outcome}
 use Rattle.moves.specs.declared.Outcome.TheVariants.{FacetEnd, Moved, PlaceEnd}
 use Rattle.moves.specs.declared.Status.{Status}

@@ -6,7 +6,7 @@ ghost use Rattle.std.specs.Prelude.{[], ◌≡◌, ◌+◌, ◌^◌, ◌≤◌, 
 ghost use Rattle.arrays.specs.Rounds.{round_of};
 ghost use Rattle.marks.specs.Reading.{CanFind, Readable, table_problem};
 ghost use Rattle.moves.specs.Held.{held};
-ghost use Rattle.rules.specs.Moves.{Round, State};
+ghost use Rattle.rules.specs.Moves.{State};
 ghost use Rattle.path_pass.specs.Finish.{CanPass, Finished, HasBegun, IsBegun};
 ghost use Rattle.path_pass.specs.Finish.{asked_of, ended_of, labels_at, on_of, problem_in};
 ghost use Rattle.path_pass.specs.Looking.{LooksUp};

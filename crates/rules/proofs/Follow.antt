@@ -53,7 +53,8 @@ use Rattle.rules.specs.Mask.{bit}
 use Rattle.rules.specs.Read.{array_of, point_gone, point_in, points_from, read, step_at, source_at, position_at, above}
 use Rattle.rules.specs.Read.{MovedAt, Exchanged, FallsBeside, CanCompute}
 use Rattle.rules.specs.Ready.{IsRound, Ready}
-use Rattle.rules.specs.Moves.{State, Round, After, goes, ends_at_place, ends_at_facet, mark_position, make_move, begun}
+use Rattle.rules.specs.Moves.{State, After, goes, ends_at_place, ends_at_facet, mark_position, make_move, begun}
+use Rattle.rules.specs.declared.Round.{Round}
 use Rattle.rules.proofs.Describes.{Describes, mark_at, MarksBut, Came, begins, through, from_larger, Reached}
 use Rattle.rules.proofs.Masks.{bit-none}
 use Rattle.rules.proofs.Move.{Outcome, at_place_end, at_facet_end, goes_on, Onward, onward}

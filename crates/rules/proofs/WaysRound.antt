@@ -25,7 +25,8 @@ use Rattle.path_laws.proofs.BlocksOfGrid.{next_agrees, previous_agrees}
 use Rattle.path_laws.proofs.Filled.{FullyLabelled}
 use Rattle.rules.specs.Mask.{bit}
 use Rattle.rules.specs.Ready.{IsRound, tested_before}
-use Rattle.rules.specs.Moves.{Round, State, source_in, first_met, first_outside, source, first_outside_or_zero}
+use Rattle.rules.specs.Moves.{State, source_in, first_met, first_outside, source, first_outside_or_zero}
+use Rattle.rules.specs.declared.Round.{Round}
 use Rattle.rules.specs.Moves.{is_filled}
 use Rattle.rules.specs.Moves.{changed_before}
 use Rattle.rules.proofs.Describes.{Describes}

@@ -4,12 +4,7 @@ use Rattle.std.specs.Prelude.{Bool, true, false, not, ◌&&◌, ◌||◌, cond, 
 use Rattle.combinatorics.specs.Edits.{insert_at, remove_at, swap_at, rotate_left, rotate_right, found}
 use Rattle.grid_points.specs.Grid.{at}
 use Rattle.rules.specs.Mask.{bit, with_index, without_index}
-
--- the ways round the blocks: of each index the one before it, the one after it, and the size of its block
-pub record Round : Type 0 where
-  pub previous : List ℕ
-  pub next : List ℕ
-  pub sizes : List ℕ
+use Rattle.rules.specs.declared.Round.{Round}
 
 -- The place: its first point, that point's coefficient list, the indices of T in the order in which each point goes to
 -- the next, a mark for each point, T and U. How it was reached: by which of the seven rules; and the number of the

@@ -4,7 +4,8 @@ use Rattle.std.specs.Prelude.{Bool, true, false, ◌&&◌, ◌||◌, List, map, 
 use Rattle.combinatorics.specs.Edits.{found}
 use Rattle.grid_points.specs.Grid.{Grid, at, num_indices, size, block_of, previous, next}
 use Rattle.rules.specs.Mask.{bit}
-use Rattle.rules.specs.Moves.{State, Round, mark_label, source_in, first_outside_or_zero, is_filled}
+use Rattle.rules.specs.Moves.{State, mark_label, source_in, first_outside_or_zero, is_filled}
+use Rattle.rules.specs.declared.Round.{Round}
 
 -- the test holds of each number that `changed_before` changes
 unfoldable pub tested_before : (ℕ → Bool) → (ℕ → ℕ) → List ℕ → ℕ → ℕ → ℕ → List ℕ → Bool

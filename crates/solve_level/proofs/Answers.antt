@@ -33,7 +33,8 @@ use Rattle.place.specs.Path.{answer}
 use Rattle.place.specs.Problem.{Problem}
 use Rattle.rules.specs.Read.{point_in, points_from}
 use Rattle.rules.specs.Ready.{IsRound}
-use Rattle.rules.specs.Moves.{Round, State}
+use Rattle.rules.specs.Moves.{State}
+use Rattle.rules.specs.declared.Round.{Round}
 
 module _ {unit : GridStruct} {divisions losses start buffer : List ℕ}
     (C : CanRunGame unit divisions losses start buffer) where

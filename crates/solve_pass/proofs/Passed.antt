@@ -31,7 +31,8 @@ use Rattle.rules.proofs.Follow.{EndsAt, NextAt, at_begin, at_new, at-spent, ends
 use Rattle.rules.specs.Mask.{bit}
 use Rattle.rules.specs.Read.{read}
 use Rattle.rules.specs.Ready.{RoundBelow}
-use Rattle.rules.specs.Moves.{After, Round, State, begun, ends_at_facet, ends_at_place, goes, make_move}
+use Rattle.rules.specs.Moves.{After, State, begun, ends_at_facet, ends_at_place, goes, make_move}
+use Rattle.rules.specs.declared.Round.{Round}
 
 pub game_full : {g : Grid} {firsts owners rests losses : List ℕ} {indices : ℕ} {round : Round} {first order : List ℕ}
     → CanPassGame g firsts owners rests losses indices round first order

@@ -16,7 +16,8 @@ use Rattle.moves.specs.Held.{state_of}
 use Rattle.moves.specs.declared.Status.{Status}
 use Rattle.rules.proofs.PointsAfter.{after_taken, few-ready, length-after}
 use Rattle.rules.specs.Read.{point_after, point_on, CanCompute, ReadyPoint}
-use Rattle.rules.specs.Moves.{Round, State, first_outside, with_mark}
+use Rattle.rules.specs.Moves.{State, first_outside, with_mark}
+use Rattle.rules.specs.declared.Round.{Round}
 
 module _ {g : Grid} {firsts owners rests losses : List ℕ} {indices : ℕ} (previous sizes first order : List ℕ)
     (s : Status)

@@ -14,7 +14,7 @@ ghost use Rattle.path_pass.specs.Finish.{Finished};
 ghost use Rattle.rules.specs.Read.{point_on};
 ghost use Rattle.rules.specs.Ready.{SixteenEach};
 ghost use Rattle.refinement_levels.specs.Levels.{game_problem};
-ghost use Rattle.rules.specs.Moves.{Round, State, make_move};
+ghost use Rattle.rules.specs.Moves.{State, make_move};
 
 use game_point::label_at;
 use moves::{Outcome, Status, advance};

@@ -5,7 +5,6 @@
 ghost use Rattle.std.specs.Prelude.{◌≡◌, ◌≤◌, ◌<◌, length};
 ghost use Rattle.arrays.specs.Rounds.{round_of};
 ghost use Rattle.path_pass.specs.Finish.{CanPass, Finished, ended_of, problem_in};
-ghost use Rattle.rules.specs.Moves.{Round};
 ghost use Rattle.trail_pass.specs.Recording.{HasRoomForTrail, Recorded};
 
 use grid::Grid;

@@ -31,7 +31,8 @@ use Rattle.rules.proofs.Describes.{Describes}
 use Rattle.rules.proofs.Follow.{start_describes}
 use Rattle.rules.specs.Mask.{bit}
 use Rattle.rules.specs.Ready.{IsRound}
-use Rattle.rules.specs.Moves.{Round, begun}
+use Rattle.rules.specs.Moves.{begun}
+use Rattle.rules.specs.declared.Round.{Round}
 use Rattle.trail.proofs.Reading.{T-alike}
 use Rattle.trail.proofs.Tables.{Labelled, some-index, some-table}
 use Rattle.trail_steps.specs.Shows.{Shows, bare}

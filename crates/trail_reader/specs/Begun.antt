@@ -9,7 +9,8 @@ use Rattle.path_laws.specs.Demand.{HasStart}
 use Rattle.positions.specs.Binomials.{Measured}
 use Rattle.rules.specs.Read.{numbers_from}
 use Rattle.rules.specs.Ready.{IsRound, RoundBelow}
-use Rattle.rules.specs.Moves.{Round, State}
+use Rattle.rules.specs.Moves.{State}
+use Rattle.rules.specs.declared.Round.{Round}
 use Rattle.trail.specs.Trail.{reading}
 use Rattle.trail_steps.specs.Reading.{problem_by}
 use Rattle.trail_reader.specs.Reading.{read_case, read_numbers}

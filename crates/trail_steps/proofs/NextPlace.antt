@@ -25,7 +25,8 @@ use Rattle.place.specs.Places.{Simplex}
 use Rattle.place.specs.Problem.{Problem}
 use Rattle.trail_records.specs.declared.IndexSets.{IndexSets}
 use Rattle.rules.specs.Ready.{RoundBelow, SixteenEach}
-use Rattle.rules.specs.Moves.{After, Round, State, goes}
+use Rattle.rules.specs.Moves.{After, State, goes}
+use Rattle.rules.specs.declared.Round.{Round}
 use Rattle.trail.proofs.Rules.{record_short}
 use Rattle.trail.specs.Change.{change}
 use Rattle.trail.specs.Record.{record_of}

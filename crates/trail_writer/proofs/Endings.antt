@@ -23,7 +23,7 @@ use Rattle.place.specs.Path.{PathAnswer, answer, ended}
 use Rattle.place.specs.Places.{Simplex}
 use Rattle.place.specs.Problem.{Problem}
 use Rattle.questions.specs.Questions.{first_no}
-use Rattle.rules.specs.Moves.{Round}
+use Rattle.rules.specs.declared.Round.{Round}
 use Rattle.trail_pass.specs.Recording.{Recorded}
 use Rattle.trail_writer.specs.Again.{HasEnd, has_room, stored_at}
 use Rattle.trail_writer.specs.Writing.{announces, trail_answer_buffer, trail_answer, trail_buffer, trail_case}

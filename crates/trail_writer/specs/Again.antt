@@ -13,7 +13,7 @@ use Rattle.place.specs.Path.{answer, ended}
 use Rattle.place.specs.Places.{Simplex}
 use Rattle.place.specs.Problem.{Problem}
 use Rattle.rules.specs.Ready.{IsRound, RoundBelow}
-use Rattle.rules.specs.Moves.{Round}
+use Rattle.rules.specs.declared.Round.{Round}
 use Rattle.trail_writer.specs.Writing.{whole_trail}
 
 -- the path has an end within the budget

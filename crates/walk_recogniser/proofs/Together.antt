@@ -30,7 +30,8 @@ use Rattle.path_laws.proofs.Positions.{at-distinct, at_in, in_at, same_at}
 use Rattle.rules.proofs.WaysRound.{back-outside, block_same}
 use Rattle.rules.specs.Mask.{bit}
 use Rattle.rules.specs.Ready.{IsRound}
-use Rattle.rules.specs.Moves.{Round, first_outside}
+use Rattle.rules.specs.Moves.{first_outside}
+use Rattle.rules.specs.declared.Round.{Round}
 use Rattle.trail.proofs.Tables.{table, table_full}
 use Rattle.walks.proofs.KeptPlace.{conditions_of, is_zero, zero_is}
 use Rattle.walks.proofs.Recognised.{of_conditions}

@@ -8,7 +8,8 @@ use Rattle.moves.specs.Held.{Holds, state_of}
 use Rattle.moves.specs.declared.Outcome.{Outcome}
 use Rattle.moves.specs.declared.Outcome.TheVariants.{FacetEnd, Moved, PlaceEnd}
 use Rattle.moves.specs.declared.Status.{Status}
-use Rattle.rules.specs.Moves.{Round, State, goes, make_move}
+use Rattle.rules.specs.Moves.{State, goes, make_move}
+use Rattle.rules.specs.declared.Round.{Round}
 use Rattle.combinatorics.specs.Front.{padded}
 use Rattle.walk_places.specs.Walks.{kept_as, nowhere}
 use Rattle.walk_ways.specs.Ways.{CanTry, way_in}

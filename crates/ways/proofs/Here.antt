@@ -18,7 +18,8 @@ use Rattle.moves.specs.declared.Status.{Status}
 use Rattle.rules.specs.Mask.{bit}
 use Rattle.rules.specs.Read.{position_at}
 use Rattle.rules.specs.Ready.{Ready, SixteenEach, label_in}
-use Rattle.rules.specs.Moves.{Round, State, mark_label, make_move}
+use Rattle.rules.specs.Moves.{State, mark_label, make_move}
+use Rattle.rules.specs.declared.Round.{Round}
 use Rattle.ways.specs.Ways.{CanMove, CanTell, gone_by, way_after, way_here}
 use Rattle.ways.specs.declared.Way.{Way}
 use Rattle.ways.specs.declared.Way.TheVariants.{Joins, Leaves, Nothing}

@@ -15,7 +15,7 @@ use Rattle.grid_points.proofs.Points.{point-long}
 use Rattle.marks.specs.Reading.{problem_from}
 use Rattle.path_pass.proofs.Visits.{is-round, round-below}
 use Rattle.place.specs.Problem.{Problem}
-use Rattle.rules.specs.Moves.{Round}
+use Rattle.rules.specs.declared.Round.{Round}
 use Rattle.nearest_pass.specs.Survey.{Surveys}
 use Rattle.nearest_pass.specs.declared.Nearest.{Nearest}
 use Rattle.nearest.specs.declared.Report.{Report}

@@ -15,7 +15,8 @@ use Rattle.moves.specs.declared.Status.{Status}
 use Rattle.path_pass.specs.Finish.{on_of}
 use Rattle.path_pass.specs.declared.Stand.{Stand}
 use Rattle.refinement_levels.specs.Levels.{game_problem}
-use Rattle.rules.specs.Moves.{Round, State, goes, make_move}
+use Rattle.rules.specs.Moves.{State, goes, make_move}
+use Rattle.rules.specs.declared.Round.{Round}
 use Rattle.solve_pass.proofs.Passed.{Passing, begins, begins-reading, can_look, facet-ends, labels-fit}
 use Rattle.solve_pass.proofs.Passed.{passes_on, place-ends, spends, spent-here}
 use Rattle.solve_pass.specs.Bare.{labelled}

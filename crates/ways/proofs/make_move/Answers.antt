@@ -2,7 +2,8 @@
 use mathlib.Core.Path.{◌≡◌, sym, ap, ◌∙◌, subst}
 use Rattle.arrays.specs.Rounds.{round_of}
 use Rattle.moves.specs.Held.{state_of}
-use Rattle.rules.specs.Moves.{Round, State}
+use Rattle.rules.specs.Moves.{State}
+use Rattle.rules.specs.declared.Round.{Round}
 use Rattle.ways.specs.Ways.{CanMove, way_after, way_here}
 use Rattle.ways.proofs.Here.{can_tell, here-moves, here-steps, same_way}
 use Rattle.ways.proofs.make_move.Goals as goal

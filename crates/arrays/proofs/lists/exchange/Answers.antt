@@ -1,11 +1,13 @@
 -- `lists::exchange` meets its contract. Assumes nothing.
-use lib.ListN.{length-set}
+use Rattle.std.proofs.Common.{◌≡◌, sym, ◌∙◌, ◌+◌, arith}
+use Rattle.std.proofs.lemmas.List.Edits.{swap_is}
 use native.Mathlib.Numerals.{add-one}
-use native.Mathlib.Omega.{arith}
 use Rattle.combinatorics.proofs.EditsOfArrays.{swap_two}
 use Rattle.arrays.proofs.lists.exchange.Goals as goal
 
 pub returns : goal.returns
 returns c =
     let a = c.args in
-    (rw add-one (swap_two a.i a.a.now (omega arith)), simp length-set (omega arith))
+    c.swap.ensures.after
+    ∙ sym (swap_is a.a.now a.i (a.i + 1) 0 (omega arith) (omega arith))
+    ∙ rw add-one (swap_two a.i a.a.now (omega arith))

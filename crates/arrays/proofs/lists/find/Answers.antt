@@ -11,10 +11,10 @@ use Rattle.combinatorics.proofs.EditsOfArrays.{first-few, found_here, found-late
 use Rattle.rules.specs.Moves.{mark_label}
 use Rattle.rules.proofs.Marks.{labels_in}
 use Rattle.arrays.proofs.lists.find.Goals as goal
-use Rattle.arrays.proofs.lists.find.Goals.{then-label_in-x+else-k-but, else-label_in-x}
+use Rattle.arrays.proofs.lists.find.Goals.{else-label_in-x-via-then-label_in-x+else-k-but, else-label_in-x-via-else-label_in-x}
 
 pub loop-k-init : goal.loop-k-init
-loop-k-init c = (omega arith, omega arith, refl)
+loop-k-init c = refl
 
 -- the label of entry k is among the labels
 label-at : (a : List ℕ) (n k : ℕ) → k < n → n ≤ length a
@@ -30,24 +30,22 @@ loop-k-preserved c =
     let a = c.args in
     let l = c.loop-k in
     let here = label-at a.a.now a.n l.k (omega arith) (omega arith) in
-    let other : (get_or (map mark_label (take a.n a.a.now)) l.k 0 ≡ a.x → l.k ≡ a.but) = elim c.if-label_in-x.branch [
-      | then-label_in-x+else-k-but w ↦ λ e. w.if-k-but.false
-      | else-label_in-x w ↦ λ e. absurd (w.if-label_in-x.false (c.label_in.ensures ∙ sym here.1 ∙ e))
-    ] in (
-      omega arith,
-      omega arith,
-      rw add-one
-          (sym (found-later a.x a.but l.k (map mark_label (take a.n a.a.now)) here.0 other)
-          ∙ l.invariant.2),
-    )
+    let other : (get_or (map mark_label (take a.n a.a.now)) l.k 0 ≡ a.x → l.k ≡ a.but) = elim c.else-label_in-x.branch [
+      | else-label_in-x-via-then-label_in-x+else-k-but w ↦ λ e. w.if-k-but.false
+      | else-label_in-x-via-else-label_in-x w ↦ λ e. absurd (w.if-label_in-x.false (c.label_in.ensures ∙ sym here.1 ∙ e))
+    ] in
+    rw add-one
+    (sym (found-later a.x a.but l.k (map mark_label (take a.n a.a.now)) here.0 other)
+    ∙ l.invariant)
 
-pub returns-then-k-n : goal.returns-then-k-n
-returns-then-k-n c =
+pub returns : goal.returns
+returns c =
     let a = c.args in
     let l = c.loop-k in
-    found_past a.x a.but l.k (map mark_label (take a.n a.a.now))
-    (rw (length-map (take a.n a.a.now) mark_label) (omega (arith, first-few a.n a.a.now, c.if-k-n.true)))
-    ∙ l.invariant.2
+    let end : a.n ≡ l.k = omega arith in
+    end ∙ found_past a.x a.but l.k (map mark_label (take a.n a.a.now))
+    (rw (length-map (take a.n a.a.now) mark_label) (omega (arith, first-few a.n a.a.now)))
+    ∙ l.invariant
 
 pub returns-then-k-but : goal.returns-then-k-but
 returns-then-k-but c =
@@ -56,4 +54,4 @@ returns-then-k-but c =
     let here = label-at a.a.now a.n l.k (omega arith) (omega arith) in
     sym (found_here a.x a.but l.k (map mark_label (take a.n a.a.now)) here.0
     (here.1 ∙ sym c.label_in.ensures ∙ c.if-label_in-x.true) c.if-k-but.true)
-    ∙ l.invariant.2
+    ∙ l.invariant

@@ -1,5 +1,5 @@
 -- `lists::find` meets its contract. The invariant: the search from entry k on finds what the search from the first
--- finds. The measure: the entries left. Assumes nothing.
+-- finds. Assumes nothing.
 use mathlib.Core.List.{map}
 use mathlib.Core.Path.{◌≡◌}
 use Prim.Native.Nat.{◌-◌, ◌≤◌}
@@ -9,8 +9,4 @@ use Rattle.rules.specs.Moves.{mark_label}
 use Rattle.arrays.proofs.lists.find.Given as goal
 
 abbrev pub invariant-loop-k : goal.invariant-loop-k
-invariant-loop-k l = (l.k ≤ l.n) × (l.n ≤ 16)
-    × (found_from l.k l.x l.but (drop l.k (map mark_label (take l.n l.a))) ≡ found l.x l.but (map mark_label (take l.n l.a)))
-
-abbrev pub decreases-loop-k : goal.decreases-loop-k
-decreases-loop-k l = l.n - l.k
+invariant-loop-k l = (found_from l.k l.x l.but (drop l.k (map mark_label (take l.n l.a))) ≡ found l.x l.but (map mark_label (take l.n l.a)))

@@ -1,6 +1,5 @@
 -- `lists::remove` meets its contract. The invariant: the entries less entry k are the old ones less the entry asked
--- for, and the last of the list and what stands behind it are as they were. The measure: the entries left.
--- Assumes nothing.
+-- for, and the last of the list and what stands behind it are as they were. Assumes nothing.
 use mathlib.Core.Path.{◌≡◌}
 use Prim.Native.Nat.{◌-◌, ◌≤◌, ◌<◌}
 use lib.ListN.{length, drop, take}
@@ -8,8 +7,5 @@ use Rattle.combinatorics.specs.Edits.{remove_at}
 use Rattle.arrays.proofs.lists.remove.Given as goal
 
 abbrev pub invariant-loop-k : goal.invariant-loop-k
-invariant-loop-k l = (l.k < l.n) × (l.n ≤ 16) × (length l.a ≡ 16) × (remove_at l.k (take l.n l.a) ≡ remove_at l.at (take l.n l.initial.a))
+invariant-loop-k l = (remove_at l.k (take l.n l.a) ≡ remove_at l.at (take l.n l.initial.a))
     × (drop (l.n - 1) l.a ≡ drop (l.n - 1) l.initial.a)
-
-abbrev pub decreases-loop-k : goal.decreases-loop-k
-decreases-loop-k l = l.n - l.k

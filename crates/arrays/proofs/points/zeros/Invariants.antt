@@ -6,6 +6,3 @@ use Rattle.arrays.proofs.points.zeros.Given as goal
 
 abbrev pub invariant-loop-h : goal.invariant-loop-h
 invariant-loop-h l = (l.h ≤ l.m) × (l.m ≤ 16) × ZerosBelow l.y l.h l.u
-
-abbrev pub decreases-loop-h : goal.decreases-loop-h
-decreases-loop-h l = l.m - l.h

@@ -1,7 +1,7 @@
 -- `shifts::lower` meets its contract. The invariant: what is left of the way makes of the present coefficients what
--- the whole way makes of the old ones, and none is 0 before it is lowered. The measure: the steps left.
+-- the whole way makes of the old ones, and none is 0 before it is lowered.
 -- Assumes nothing.
-use mathlib.Core.Path.{refl}
+use Rattle.std.proofs.Common.{◌≡◌, refl, ◌+◌, ◌-◌}
 use borrow.Author.Tests.{ltb-true}
 use native.Mathlib.Numerals.{sub-one}
 use native.Mathlib.Omega.{arith}
@@ -9,22 +9,23 @@ use Rattle.grid_points.specs.Grid.{at}
 use Rattle.rules.proofs.ChangedBefore.{changed_all, changed_onward, changed_spent, tested_here}
 use Rattle.arrays.proofs.shifts.lower.Goals as goal
 
-pub loop-left-init : goal.loop-left-init
-loop-left-init c = record { same = refl; passing = c.requires.c_value; low = omega arith; most = omega arith }
+pub loop-init : goal.loop-init
+loop-init c = record { same = refl; passing = c.requires.c_value; low = omega arith; most = omega arith }
 
 pub overflow_sub-c : goal.overflow_sub-c
 overflow_sub-c c =
-    let l = c.loop-left in
+    let l = c.loop in
     omega (arith, ltb-true 0 (at l.c l.at) (tested_here l.invariant (omega arith) c.if-at-b.false))
 
-pub loop-left-preserved : goal.loop-left-preserved
-loop-left-preserved c =
-    let l = c.loop-left in
-    changed_onward l.invariant (omega arith) c.if-at-b.false c.requires.h_bound.1
-    (sub-one (at l.c l.at)) c.wide-at.ensures
+pub loop-preserved : goal.loop-preserved
+loop-preserved c =
+    let l = c.loop in
+    let left : 16 - (l.counter + 1) ≡ 16 - l.counter - 1 = omega arith in
+    rw left (changed_onward l.invariant (omega arith) c.if-at-b.false c.requires.h_bound.1
+    (sub-one (at l.c l.at)) c.from-at.ensures)
 
-pub returns-after-loop-left : goal.returns-after-loop-left
-returns-after-loop-left c = changed_spent c.loop-left.invariant (omega arith)
+pub returns-after-loop : goal.returns-after-loop
+returns-after-loop c = changed_spent c.loop.invariant (omega arith)
 
 pub returns-then-at-b : goal.returns-then-at-b
-returns-then-at-b c = changed_all c.loop-left.invariant c.if-at-b.true
+returns-then-at-b c = changed_all c.loop.invariant c.if-at-b.true

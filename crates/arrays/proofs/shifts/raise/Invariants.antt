@@ -1,12 +1,9 @@
 -- `shifts::raise` meets its contract. The invariant: what is left of the way makes of the present coefficients what
--- the whole way makes of the old ones, and within the width. The measure: the steps left. Assumes nothing.
-use Prim.Native.Nat.{suc}
+-- the whole way makes of the old ones, and within the width. Assumes nothing.
+use Prim.Native.Nat.{suc, ◌-◌}
 use lib.Dec.{ltb}
 use Rattle.rules.proofs.ChangedBefore.{Changing}
 use Rattle.arrays.proofs.shifts.raise.Given as goal
 
-abbrev pub invariant-loop-left : goal.invariant-loop-left
-invariant-loop-left l = Changing (λ x. ltb x 65535) suc l.previous l.h l.b l.initial.c l.c l.at l.left
-
-abbrev pub decreases-loop-left : goal.decreases-loop-left
-decreases-loop-left l = l.left
+abbrev pub invariant-loop : goal.invariant-loop
+invariant-loop l = Changing (λ x. ltb x 65535) suc l.previous l.h l.b l.initial.c l.c l.at (16 - l.counter)

@@ -25,16 +25,16 @@ in_blocks g made h l = omega (
 )
 
 pub loop-h-init : goal.loop-h-init
-loop-h-init c = (omega arith, search rules, λ k l. absurd (omega arith))
+loop-h-init c = (search rules, λ k l. absurd (omega arith))
 
-pub bounds-block-h : goal.bounds-block-h
-bounds-block-h c = omega (arith, indices-few c.args.g c.requires)
+pub bounds-g-h : goal.bounds-g-h
+bounds-g-h c = omega (arith, indices-few c.args.g c.requires)
 
-pub bounds-sizes-j : goal.bounds-sizes-j
-bounds-sizes-j c =
+pub bounds-g-from : goal.bounds-g-from
+bounds-g-from c =
     omega (
       arith,
-      c.wide-j.ensures,
+      c.from.ensures,
       in_blocks c.args.g c.requires c.loop-h.h c.loop-h-test.true,
       (blocks-range c.args.g c.requires).1,
     )
@@ -42,27 +42,23 @@ bounds-sizes-j c =
 pub bounds-a-h : goal.bounds-a-h
 bounds-a-h c = omega (arith, indices-few c.args.g c.requires)
 
-pub overflow_add-h : goal.overflow_add-h
-overflow_add-h c = omega (arith, indices-few c.args.g c.requires)
-
 pub loop-h-preserved : goal.loop-h-preserved
 loop-h-preserved c =
     let g = c.args.g in
     let l = c.loop-h in
-    let x = at g.sizes c.wide-j.result in (
-      omega arith,
-      length-set l.a l.h x ∙ l.invariant.1,
+    let x = at g.sizes c.from.result in (
+      length-set l.a l.h x ∙ l.invariant.0,
       λ k m. ⊎_elim
           (λ (e : k ≡ l.h). rw e
-          (get_or-set_same l.a l.h x 0 (omega (arith, l.invariant.1, indices-few g c.requires))
-          ∙ ap (at g.sizes) c.wide-j.ensures))
-          (λ n. get_or-set_other l.a l.h k x 0 n ∙ l.invariant.2 k (omega (arith, n)))
+          (get_or-set_same l.a l.h x 0 (omega (arith, l.invariant.0, indices-few g c.requires))
+          ∙ ap (at g.sizes) c.from.ensures))
+          (λ n. get_or-set_other l.a l.h k x 0 n ∙ l.invariant.1 k (omega (arith, n)))
           (same_or k l.h),
     )
 
 pub returns : goal.returns
 returns c =
     let g = c.args.g in
-    λ h l. c.loop-h.invariant.2 h (omega arith)
+    λ h l. c.loop-h.invariant.1 h (omega arith)
     ∙ made-size g c.requires (at g.block h) (in_blocks g c.requires h l)
     ∙ rw (made-block g c.requires h l)

@@ -7,7 +7,4 @@ use Rattle.grid_points.specs.Grid.{at}
 use Rattle.arrays.proofs.sizes.block_sizes.Given as goal
 
 abbrev pub invariant-loop-h : goal.invariant-loop-h
-invariant-loop-h l = (l.h ≤ l.m) × (length l.a ≡ 16) × ((k : ℕ) → k < l.h → at l.a k ≡ at l.sizes (at l.block k))
-
-abbrev pub decreases-loop-h : goal.decreases-loop-h
-decreases-loop-h l = l.m - l.h
+invariant-loop-h l = (length l.a ≡ 16) × ((k : ℕ) → k < l.h → at l.a k ≡ at l.g.sizes (at l.g.block k))

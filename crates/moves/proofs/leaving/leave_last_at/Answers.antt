@@ -9,7 +9,8 @@ use native.Mathlib.Omega.{arith}
 use Rattle.arrays.specs.Rounds.{round_of, no_round}
 use Rattle.moves.specs.Held.{state_of}
 use Rattle.rules.specs.Mask.{bit}
-use Rattle.rules.specs.Moves.{After, Round, State, goes, leave_last, shrink}
+use Rattle.rules.specs.Moves.{After, State, goes, leave_last, shrink}
+use Rattle.rules.specs.declared.Round.{Round}
 use Rattle.moves.proofs.Cases.{T-loses, backward, beside_after, last-leaves, last-ready, last-to-U}
 use Rattle.moves.proofs.Cases.{same-state, shrink-beside}
 use Rattle.moves.proofs.leaving.leave_last_at.Goals as goal

@@ -14,7 +14,7 @@ use Rattle.finder.proofs.Announcements.{FinishedBy, problem-from}
 use Rattle.marks.specs.Reading.{problem_from}
 use Rattle.path_pass.proofs.Visits.{is-round, round-below}
 use Rattle.place.specs.Problem.{Problem}
-use Rattle.rules.specs.Moves.{Round}
+use Rattle.rules.specs.declared.Round.{Round}
 use Rattle.trail_pass.specs.Recording.{Recorded}
 use Rattle.trail_writer.specs.Again.{has_room, stored_at}
 use Rattle.trail_writer.proofs.Endings.{announced-end, counts, refused_17, stores_nothing}
