@@ -9,21 +9,19 @@ use native.Mathlib.Omega.{arith}
 use borrow.Author.Tests.{eqb-true, eq-eqb, ne_eqb, lt-ltb, le-ltb}
 use lib.Dec.{eqb, ltb}
 use lib.ListN.{length, take}
-use Rattle.arrays.specs.Rounds.{round_of}
 use Rattle.combinatorics.proofs.Basics.{true_or_false, false_of, and_left, and_right}
 use Rattle.combinatorics.specs.Edits.{remove_at, swap_at, rotate_left, rotate_right, found}
 use Rattle.grid_points.specs.Grid.{at}
 use Rattle.combinatorics.proofs.EditsOfArrays.{counted}
 use Rattle.rules.proofs.FirstMet.{entry}
 use Rattle.rules.specs.Mask.{bit, with_index, without_index}
-use Rattle.moves.specs.Held.{state_of, answered}
-use Rattle.rules.specs.Ready.{tested_before, SixteenEach, ReadyFirst, ReadyLast, ReadyLeave, ReadyGrow, label_in, Ready}
+use Rattle.moves.specs.Held.{state_of}
+use Rattle.rules.specs.Ready.{tested_before, ReadyFirst, ReadyLast, ReadyLeave, ReadyGrow, label_in, Ready}
 use Rattle.rules.specs.Moves.{State, After, goes, ends_at_place, ends_at_facet, mark_label, first_outside, source_in}
 use Rattle.rules.specs.declared.Round.{Round}
 use Rattle.rules.specs.Moves.{first_outside_or_zero, is_filled, shifted, changed_before, shrink, joined, grow, leave_first}
 use Rattle.rules.specs.Moves.{leave_middle, leave_last, leave, make_move}
-use Rattle.moves.specs.declared.Outcome.{Outcome}
-use Rattle.moves.specs.declared.Outcome.TheVariants.{Moved, PlaceEnd, FacetEnd}
+use Rattle.moves.specs.declared.Held.{Held}
 use Rattle.moves.specs.declared.Status.{Status}
 
 -- states that agree in what a move changes
@@ -56,98 +54,27 @@ pub same-state : {first coefficients order marks first' coefficients' order' mar
     })
 same-state round rule f c o l t u e = cc
 
--- what the arrays and the status hold once point i and entry e are taken out
-pub shrinks : (round : Round) (first coefficients order marks order' marks' : List ℕ) (s : Status) (i e : ℕ)
-    → e < s.count → {T U active : ℕ} (h : ℕ) (into_u : Bool) → h ≡ at (take s.count order) e
-    → take (s.count - 1) order' ≡ remove_at e (take s.count order)
-    → take (s.count + 1 - 1) marks' ≡ remove_at i (take (s.count + 1) marks)
+-- what is held once point i and entry e are taken out
+pub shrinks : (round : Round) (held : Held) (order' marks' : List ℕ) (s : Status) (i e : ℕ)
+    → e < s.count → {T U active rule : ℕ} (h : ℕ) (into_u : Bool) → h ≡ at (take s.count held.order) e
+    → take (s.count - 1) order' ≡ remove_at e (take s.count held.order)
+    → take (s.count + 1 - 1) marks' ≡ remove_at i (take (s.count + 1) held.marks)
     → active ≡ found (h + 1) 16 (map mark_label (take s.count marks')) → T ≡ without_index s.t h
-    → U ≡ cond into_u (with_index s.u h) s.u
-    → state_of round first coefficients order' marks'
-    (record { rule = cond into_u 6 7; count = s.count - 1; t = T; u = U; active = active })
-    ≡ shrink (state_of round first coefficients order marks s) i e into_u
+    → U ≡ cond into_u (with_index s.u h) s.u → rule ≡ cond into_u 6 7
+    → state_of round
+    (record { first = held.first; coefficients = held.coefficients; order = order'; marks = marks' })
+    (record { rule = rule; count = s.count - 1; t = T; u = U; active = active })
+    ≡ shrink (state_of round held s) i e into_u
 unfolding shrink
-shrinks round first coefficients order marks order' marks' s i e low h into_u x o l f t u =
+shrinks round held order' marks' s i e low h into_u x o l f t u r =
     let n = s.count in
-    let rest : take n marks' ≡ remove_at i (take (suc n) marks) = rw (all n, add-one n) at l in
+    let rest : take n marks' ≡ remove_at i (take (suc n) held.marks) = rw (all n, add-one n) at l in
     let z : suc (n - 1) ≡ n = omega arith in
-    same-state round (cond into_u 6 7) refl refl o (rw z rest) (rw (← x) t) (rw (← x) u) (rw (← x, ← rest, ← add-one) f)
+    rw r (same-state round (cond into_u 6 7) refl refl o (rw z rest) (rw (← x) t) (rw (← x) u)
+    (rw (← x, ← rest, ← add-one) f))
   where
     all : (n : ℕ) → n + 1 - 1 ≡ n
     all n = omega arith
-
--- the same state with other ways round the blocks and another first point, where a move looks at neither
-abbrev pub beside : Round → List ℕ → List ℕ → State → State
-beside round first coefficients s = record {
-  round = round;
-  first = first;
-  coefficients = coefficients;
-  order = s.order;
-  marks = s.marks;
-  T = s.T;
-  U = s.U;
-  active = s.active;
-  rule = s.rule;
-}
-
-abbrev on_round : Round → State → State
-on_round round s = beside round s.first s.coefficients s
-
-abbrev pub beside_after : Round → List ℕ → List ℕ → After → After
-beside_after round first coefficients (goes s) = goes (beside round first coefficients s)
-beside_after round first coefficients (ends_at_place s h) = ends_at_place (beside round first coefficients s) h
-beside_after round first coefficients (ends_at_facet s h) = ends_at_facet (beside round first coefficients s) h
-
-abbrev pub on_round_after : Round → After → After
-on_round_after round (goes s) = goes (on_round round s)
-on_round_after round (ends_at_place s h) = ends_at_place (on_round round s) h
-on_round_after round (ends_at_facet s h) = ends_at_facet (on_round round s) h
-
-pub answered-beside : (round round' : Round) (first coefficients order marks : List ℕ) (s : Status) (r : Outcome)
-    → beside_after round first coefficients (answered round' [] [] order marks s r)
-    ≡ answered round first coefficients order marks s r
-answered-beside round round' first coefficients order marks s (Moved r) = refl
-answered-beside round round' first coefficients order marks s (PlaceEnd h) = refl
-answered-beside round round' first coefficients order marks s (FacetEnd h) = refl
-
-module _ (s : State) (first coefficients : List ℕ) where
-  pub shrink-beside : (round : Round) (i e : ℕ) (into_u : Bool)
-      → beside round first coefficients (shrink s i e into_u) ≡ shrink (beside round first coefficients s) i e into_u
-  unfolding shrink
-  shrink-beside round i e into_u = refl
-
-  -- to join, the way back is not looked at
-  pub grow-beside : (previous : List ℕ) (h : ℕ)
-      → beside_after (round_of previous s.round.next s.round.sizes) first coefficients (grow s h)
-      ≡ grow (beside (round_of previous s.round.next s.round.sizes) first coefficients s) h
-  unfolding grow
-  grow-beside previous h =
-      ⊎_elim (λ e. rw e) (λ e. rw e) (true_or_false (not (bit s.U h) && is_filled s.round s.T s.U h))
-
--- for a point to leave that is not the first, the way on is not looked at
-module _ (s : State) (next : List ℕ) where
-  abbrev pub with_next : Round
-  with_next = round_of s.round.previous next s.round.sizes
-
-  pub middle_beside : (coefficients : List ℕ) (i : ℕ)
-      → beside with_next s.first coefficients (leave_middle s i)
-      ≡ leave_middle (beside with_next s.first coefficients s) i
-  unfolding leave_middle shrink
-  middle_beside coefficients i =
-      let b = source_in s (at s.order i) in
-      ⊎_elim (λ e. rw e) (λ e. rw e) (true_or_false (eqb (at s.order (i - 1)) b && eqb (at s.first b) 0))
-
-  pub last-beside : on_round with_next (leave_last s) ≡ leave_last (on_round with_next s)
-  unfolding leave_last shrink
-  last-beside =
-      let h = at s.order (length s.order - 1) in
-      ⊎_elim
-      (λ (e : eqb (at s.first h) 0 ≡ true). rw e)
-      (λ (e : eqb (at s.first h) 0 ≡ false). ⊎_elim
-      (λ (f : eqb (at s.coefficients h) 0 ≡ true). rw (e, f))
-      (λ (f : eqb (at s.coefficients h) 0 ≡ false). rw (e, f))
-      (true_or_false (eqb (at s.coefficients h) 0)))
-      (true_or_false (eqb (at s.first h) 0))
 
 module _ (s : State) (h : ℕ) where
   pub joins-from-U : (i : ℕ) → bit s.U h ≡ true
@@ -306,23 +233,23 @@ module _ (s : State) where
     unfolding make_move
     label-joins e = rw (lt-ltb s.rule 6 read, ← at_label, ← at_h, e)
 
--- the mark of the point that came in, in its array
-module _ (round : Round) (first coefficients order marks : List ℕ) (s : Status) (each : SixteenEach order marks)
-    (r : Ready (state_of round first coefficients order marks s)) (read : s.rule < 6) where
-  few : length (take s.count order) ≤ 15
+-- the mark of the point that came in, among those held
+module _ (round : Round) (held : Held) (s : Status) (long : length held.order ≡ 16)
+    (r : Ready (state_of round held s)) (read : s.rule < 6) where
+  few : length (take s.count held.order) ≤ 15
   few = ⊎_elim
       (λ e. (r.leaves read e).few)
       (λ e. (r.grows read e).few)
-      (true_or_false (bit s.t (mark_label (at (take (suc s.count) marks) s.active) - 1)))
+      (true_or_false (bit s.t (mark_label (at (take (suc s.count) held.marks) s.active) - 1)))
 
   pub count_low : s.count ≤ 15
-  count_low = omega (arith, few, counted order s.count each.in_order few)
+  count_low = omega (arith, few, counted held.order s.count long few)
 
   pub active-low : s.active ≤ s.count
-  active-low = omega (arith, r.active, counted order s.count each.in_order few)
+  active-low = omega (arith, r.active, counted held.order s.count long few)
 
-  pub mark-held : at marks s.active ≡ at (take (suc s.count) marks) s.active
-  mark-held = entry marks (suc s.count) s.active (at marks s.active) (omega (arith, active-low)) refl
+  pub mark-held : at held.marks s.active ≡ at (take (suc s.count) held.marks) s.active
+  mark-held = entry held.marks (suc s.count) s.active (at held.marks s.active) (omega (arith, active-low)) refl
 
-  pub label-low : (1 ≤ mark_label (at marks s.active)) × (mark_label (at marks s.active) ≤ 16)
+  pub label-low : (1 ≤ mark_label (at held.marks s.active)) × (mark_label (at held.marks s.active) ≤ 16)
   label-low = rw mark-held (r.label read)

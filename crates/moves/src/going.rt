@@ -1,48 +1,34 @@
 // The first point and its coefficients move on by one step or back by one, with the order and the marks.
-ghost use Rattle.arrays.specs.Going.{CanGo, CanGoForward, GoesForward, CanGoBack, GoesBack};
+ghost use Rattle.moves.specs.Going.{CanGo, CanGoBack, CanGoForward, GoesBack, GoesForward};
 
-use crate::lists::{rotate_left, rotate_right};
-use crate::shifts::{lower, raise, shift};
+use crate::Held;
+use arrays::{lower, raise, rotate_left, rotate_right, shift};
+use rules::Round;
 
-// The second point becomes the first, h being the index of the step to it and b the index that this step takes from.
-pub fn go_forward(
-    previous: &[u8; 16],
-    first: &mut [u16; 16],
-    coefficients: &mut [u16; 16],
-    order: &mut [u32; 16],
-    marks: &mut [u32; 16],
-    n: usize,
-    h: usize,
-    b: usize,
-)
-    requires can_go { CanGo previous.now order.old marks.old n h b }
-    requires can_go_forward { CanGoForward previous.now first.old coefficients.old h b }
-    ensures { GoesForward previous.now first coefficients order marks n h b }
-{
-    shift(first, h, b);
-    raise(coefficients, previous, h, b);
-    rotate_left(order, n);
-    rotate_left(marks, n + 1);
-}
+impl Held {
+    // The second point becomes the first, h being the index of the step to it and b the index that this step takes
+    // from.
+    pub fn go_forward(&mut self, round: &Round, n: usize, h: usize, b: usize)
+        requires can_go { CanGo round.now n h b }
+        requires can_go_forward { CanGoForward round.now self.old h b }
+        ensures { GoesForward round.now self.old self.new n h b }
+    {
+        shift(&mut self.first, h, b);
+        raise(&mut self.coefficients, &round.previous, h, b);
+        rotate_left(&mut self.order, n);
+        rotate_left(&mut self.marks, n + 1);
+    }
 
-// A new first point comes in before the first, h being the index of the step from it and b the index that this step
-// takes from.
-pub fn go_back(
-    previous: &[u8; 16],
-    first: &mut [u16; 16],
-    coefficients: &mut [u16; 16],
-    order: &mut [u32; 16],
-    marks: &mut [u32; 16],
-    n: usize,
-    h: usize,
-    b: usize,
-)
-    requires can_go { CanGo previous.now order.old marks.old n h b }
-    requires can_go_back { CanGoBack previous.now first.old coefficients.old h b }
-    ensures { GoesBack previous.now first coefficients order marks n h b }
-{
-    shift(first, b, h);
-    lower(coefficients, previous, h, b);
-    rotate_right(order, n);
-    rotate_right(marks, n + 1);
+    // A new first point comes in before the first, h being the index of the step from it and b the index that this step
+    // takes from.
+    pub fn go_back(&mut self, round: &Round, n: usize, h: usize, b: usize)
+        requires can_go { CanGo round.now n h b }
+        requires can_go_back { CanGoBack round.now self.old h b }
+        ensures { GoesBack round.now self.old self.new n h b }
+    {
+        shift(&mut self.first, b, h);
+        lower(&mut self.coefficients, &round.previous, h, b);
+        rotate_right(&mut self.order, n);
+        rotate_right(&mut self.marks, n + 1);
+    }
 }

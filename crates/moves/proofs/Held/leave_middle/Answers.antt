@@ -1,0 +1,35 @@
+-- `Held::leave_middle` meets its contract: rule 6 or rule 1. Assumes nothing.
+use Rattle.std.proofs.Common.{◌≡◌, refl, ◌∙◌, ◌-◌, take, arith}
+use Rattle.combinatorics.proofs.EditsOfArrays.{take_swap}
+use Rattle.combinatorics.specs.Edits.{swap_at}
+use Rattle.grid_points.specs.Grid.{at}
+use Rattle.moves.specs.Held.{state_of}
+use Rattle.moves.proofs.Cases.{same-state, middle_to_U, steps-exchanged}
+use Rattle.moves.proofs.Held.leave_middle.Goals as goal
+use Rattle.moves.proofs.Held.leave_middle.Goals.{else-to-b-via-then-to-b+else-self-b-eq0, else-to-b-via-else-to-b}
+
+pub returns-then-self-b-eq0 : goal.returns-then-self-b-eq0
+returns-then-self-b-eq0 c =
+    let a = c.args in
+    let h = c.index_at-from in
+    let w = c.index_at-to in
+    let b = c.first_outside-b in
+    c.shrink.ensures a.round.now
+    ∙ middle_to_U (state_of a.round.now a.self.now a.s) a.i h.result w.result b.result h.ensures.is w.ensures.is
+    b.ensures.0 c.if-to-b.true c.if-self-b-eq0.true
+
+pub returns : goal.returns
+returns c =
+    let a = c.args in
+    let h = c.index_at-from in
+    let w = c.index_at-to in
+    let b = c.first_outside-b in
+    let stays : (w.result ≡ b.result → at a.self.now.first b.result ≡ 0 → ⊥) = elim c.else-to-b.branch [
+      | else-to-b-via-then-to-b+else-self-b-eq0 w ↦ λ _. w.if-self-b-eq0.false
+      | else-to-b-via-else-to-b w ↦ λ e _. w.if-to-b.false e
+    ] in
+    let order : take a.s.count c.exchange.new.a ≡ swap_at (a.i - 1) (take a.s.count a.self.now.order) =
+    rw c.exchange.ensures (take_swap a.s.count (a.i - 1) a.self.now.order (omega arith)) in
+    same-state _ 1 refl refl order refl refl refl refl
+    ∙ steps-exchanged (state_of a.round.now a.self.now a.s) a.i h.result w.result b.result h.ensures.is w.ensures.is
+    b.ensures.0 stays

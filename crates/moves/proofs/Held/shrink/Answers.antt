@@ -1,0 +1,21 @@
+-- `Held::shrink` meets its contract, by rule 6 and by rule 7. Assumes nothing.
+use Rattle.std.proofs.Common.{Bool, ◌≡◌, ◌∙◌, sym, refl, cond, ℕ}
+use Rattle.rules.specs.Mask.{with_index}
+use Rattle.moves.proofs.Cases.{shrinks}
+use Rattle.moves.proofs.Held.shrink.Goals as goal
+use Rattle.moves.proofs.Held.shrink.Goals.{then-joins, else-joins, then-joins-2, else-joins-2}
+
+pub returns : goal.returns
+returns c =
+    let a = c.args in
+    let h = c.index_at-h in
+    let rule : c.if-joins.rule ≡ cond a.joins 6 7 = elim c.if-joins.branch [
+      | then-joins w ↦ rw w.if-joins.true w.rule-is
+      | else-joins w ↦ rw w.if-joins.false w.rule-is
+    ] in
+    let u : c.if-joins-2.u ≡ cond a.joins (with_index a.s.u h.result) a.s.u = elim c.if-joins-2.branch [
+      | then-joins-2 w ↦ rw w.if-joins-2.true (w.u-is ∙ w.add-u.ensures)
+      | else-joins-2 w ↦ rw w.if-joins-2.false w.u-is
+    ] in
+    λ round. shrinks round a.self.now c.remove.new.a c.remove-2.new.a a.s a.i a.e c.requires.1.entry h.result a.joins
+    h.ensures.is c.remove.ensures.0 c.remove-2.ensures.0 c.find-active.ensures c.without-t.ensures u rule
