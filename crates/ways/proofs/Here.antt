@@ -1,26 +1,26 @@
 -- The way that the labels tell: it is a point that leaves or a label that joins T, the move that it names is the step,
 -- and it can be made where the step can. Assumes nothing.
 use mathlib.Core.Bool.{false}
-use mathlib.Core.List.{List, [], map}
+use mathlib.Core.List.{map}
 use mathlib.Core.Logic.{◌⊎◌, inl, inr, ⊎_elim}
 use mathlib.Core.Path.{◌≡◌, refl, sym, ap, ◌∙◌, subst}
 use Prim.Native.Nat.{ℕ, ◌-◌, ◌≤◌, ◌<◌}
 use borrow.Author.Tests.{lt-ltb, le-ltb}
 use lib.ListN.{length, take}
 use native.Mathlib.Omega.{arith}
-use Rattle.arrays.specs.Rounds.{no_round}
 use Rattle.combinatorics.proofs.Basics.{before_or_not, true_or_false}
 use Rattle.combinatorics.proofs.EditsOfArrays.{counted}
 use Rattle.combinatorics.specs.Edits.{found}
 use Rattle.moves.proofs.Cases.{Leaving, label-joins, leaving-leaves, leaving-ready}
 use Rattle.moves.specs.Held.{state_of}
+use Rattle.moves.specs.declared.Held.{Held}
 use Rattle.moves.specs.declared.Status.{Status}
 use Rattle.rules.specs.Mask.{bit}
 use Rattle.rules.specs.Read.{position_at}
-use Rattle.rules.specs.Ready.{Ready, SixteenEach, label_in}
+use Rattle.rules.specs.Ready.{Ready, label_in}
 use Rattle.rules.specs.Moves.{State, mark_label, make_move}
 use Rattle.rules.specs.declared.Round.{Round}
-use Rattle.ways.specs.Ways.{CanMove, CanTell, gone_by, way_after, way_here}
+use Rattle.ways.specs.Ways.{CanMove, CanTell, gone_by, held_marks, way_after, way_here}
 use Rattle.ways.specs.declared.Way.{Way}
 use Rattle.ways.specs.declared.Way.TheVariants.{Joins, Leaves, Nothing}
 
@@ -90,31 +90,30 @@ module _ (a : State) where
   gone-joining h j = ap (gone_by a) (here-joins h j)
 
 -- the ways round the blocks, the first point and the order have no part in it
-pub same_way : (round : Round) (first coefficients order marks : List ℕ) (s : Status)
-    → way_here (state_of no_round [] [] [] marks s) ≡ way_here (state_of round first coefficients order marks s)
-unfolding way_here
-same_way round first coefficients order marks s = refl
+module _ (round : Round) (held : Held) (s : Status) where
+  pub same_way : way_here (held_marks held.marks s) ≡ way_here (state_of round held s)
+  unfolding way_here
+  same_way = refl
 
-pub same-gone : (round : Round) (first coefficients order marks : List ℕ) (s : Status) (way : Way)
-    → gone_by (state_of no_round [] [] [] marks s) way ≡ gone_by (state_of round first coefficients order marks s) way
-same-gone round first coefficients order marks s (Leaves i) = refl
-same-gone round first coefficients order marks s (Joins h) = refl
-same-gone round first coefficients order marks s Nothing = refl
+  pub same-gone : (way : Way) → gone_by (held_marks held.marks s) way ≡ gone_by (state_of round held s) way
+  same-gone (Leaves i) = refl
+  same-gone (Joins h) = refl
+  same-gone Nothing = refl
 
 -- a state that is ready for its move has few points, and tells the way on
-module _ (round : Round) (first coefficients order marks : List ℕ) (s : Status) (each : SixteenEach order marks)
-    (r : Ready (state_of round first coefficients order marks s)) where
-  few-steps : length (take s.count order) ≤ 15
+module _ (round : Round) (held : Held) (s : Status) (long : length held.order ≡ 16)
+    (r : Ready (state_of round held s)) where
+  few-steps : length (take s.count held.order) ≤ 15
   few-steps =
       ⊎_elim
       (λ (l : s.rule < 6). ⊎_elim (λ e. (r.leaves l e).few) (λ e. (r.grows l e).few)
-      (true_or_false (bit s.t (label_in (state_of round first coefficients order marks s) - 1))))
+      (true_or_false (bit s.t (label_in (state_of round held s) - 1))))
       (λ (l : 6 ≤ s.rule). (r.goes_on l).few) (before_or_not s.rule 6)
 
-  steps-counted : length (take s.count order) ≡ s.count
-  steps-counted = counted order s.count each.in_order few-steps
+  steps-counted : length (take s.count held.order) ≡ s.count
+  steps-counted = counted held.order s.count long few-steps
 
-  pub can_tell : CanTell (state_of no_round [] [] [] marks s) s
+  pub can_tell : CanTell (held_marks held.marks s) s
   can_tell = record {
     active = omega (arith, r.active, steps-counted);
     few = omega (arith, steps-counted, few-steps);

@@ -1,3 +1,2 @@
 pub mod Here
-pub mod Outcomes
 pub mod RuleOne

@@ -1,9 +1,7 @@
 -- The way from a place to the next: a point that leaves, or an index that joins T; and the move that it names. The
 -- promises of the writer and the reader do not cite it. Assumes nothing.
-use Rattle.std.specs.Prelude.{true, cond, List, [], map, ◌≡◌, ℕ, ◌-◌, ◌≤◌, ◌<◌, ltb}
-use Rattle.arrays.specs.Rounds.{no_round}
+use Rattle.std.specs.Prelude.{true, cond, List, [], map, ◌≡◌, ℕ, ◌-◌, ◌≤◌, ◌<◌, ltb, suc, take}
 use Rattle.combinatorics.specs.Edits.{found}
-use Rattle.moves.specs.Held.{state_of}
 use Rattle.moves.specs.declared.Status.{Status}
 use Rattle.rules.specs.Mask.{bit}
 use Rattle.rules.specs.Read.{position_at}
@@ -14,7 +12,17 @@ use Rattle.ways.specs.declared.Way.TheVariants.{Joins, Leaves, Nothing}
 
 -- of a state, what its marks and its status hold
 abbrev pub held_marks : List ℕ → Status → State
-held_marks marks s = state_of no_round [] [] [] marks s
+held_marks marks s = record {
+  round = record { previous = []; next = []; sizes = [] };
+  first = [];
+  coefficients = [];
+  order = [];
+  marks = take (suc s.count) marks;
+  T = s.t;
+  U = s.u;
+  active = s.active;
+  rule = s.rule;
+}
 
 -- by the labels: after rules 6 and 7 the point named leaves, else the other point with the label that came in, if T has
 -- that, and else the label joins T

@@ -1,7 +1,5 @@
 -- `joining::join` meets its contract. Assumes nothing.
-use mathlib.Core.Path.{◌≡◌, refl}
-use Prim.Native.Nat.{suc, ◌+◌}
-use lib.ListN.{take}
+use Rattle.std.proofs.Common.{◌≡◌, refl, suc, ◌+◌, take}
 use native.Mathlib.Numerals.{add-one}
 use Rattle.combinatorics.specs.Edits.{insert_at}
 use Rattle.moves.proofs.Cases.{same-state}
@@ -11,15 +9,6 @@ pub returns : goal.returns
 returns c =
     let a = c.args in
     let n = a.s.count in
-    let marks : take (suc (n + 1)) c.insert-2.new.a
-    ≡ insert_at (suc a.i) 0 (take (suc n) a.marks.now) =
+    let marks : take (suc (n + 1)) c.insert-2.new.a ≡ insert_at (suc a.i) 0 (take (suc n) a.held.now.marks) =
     rw (← add-one (n + 1), ← add-one a.i, ← add-one n) c.insert-2.ensures.0 in
-    record {
-      state = λ round first coefficients. same-state round a.rule refl refl
-          c.insert.ensures.0 marks c.add.ensures c.without.ensures
-          (add-one a.i);
-      each = record {
-        in_order = c.insert.ensures.1;
-        in_marks = c.insert-2.ensures.1;
-      };
-    }
+    λ round. same-state round a.rule refl refl c.insert.ensures.0 marks c.add.ensures c.without.ensures (add-one a.i)
