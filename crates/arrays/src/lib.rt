@@ -8,7 +8,7 @@ mod mask;
 mod points;
 mod rounds;
 mod shifts;
-mod sizes;
+mod ways;
 
 pub use lists::{
     exchange, find, index_at, insert, label_in, position_at, remove, rotate_left, rotate_right,
@@ -17,4 +17,4 @@ pub use mask::{add, has, without};
 pub use points::{padded, zeros};
 pub use rounds::{first_outside, first_outside_or_zero, in_neither, is_filled};
 pub use shifts::{lower, raise, shift};
-pub use sizes::block_sizes;
+pub use ways::round_of;

@@ -1,15 +1,14 @@
 -- From where a pass finished to a run's answer: the start in its array is the start, and the points of the last state
 -- are the answer's. Assumes nothing.
 use mathlib.Core.List.{List, []}
-use mathlib.Core.Path.{◌≡◌, sym, ◌∙◌, subst}
+use mathlib.Core.Path.{◌≡◌, refl, sym, ap, ◌∙◌, subst}
 use Prim.Native.Nat.{ℕ, suc, ◌-◌, ◌*◌, ◌≤◌}
 use lib.ListN.{length, length-map, length-replicate, length-take, replicate, take}
 use lib.Seq.{take-length}
 use native.Mathlib.Nat.{mul-le-mul_right}
 use native.Mathlib.Omega.{arith}
-use Rattle.arrays.specs.Rounds.{round_of}
 use Rattle.combinatorics.proofs.EditsOfArrays.{counted}
-use Rattle.combinatorics.proofs.Fronts.{front_length, front_taken}
+use Rattle.combinatorics.proofs.Fronts.{front_taken}
 use Rattle.combinatorics.proofs.Ranges.{length-up_from}
 use Rattle.combinatorics.specs.Front.{front}
 use Rattle.combinatorics.specs.Lists.{up_from}
@@ -20,8 +19,9 @@ use Rattle.grid_points.proofs.Points.{point-long}
 use Rattle.grid.specs.Made.{IsMade, shape}
 use Rattle.grid.specs.declared.Grid.{Grid as GridStruct}
 use Rattle.moves.specs.Held.{state_of}
+use Rattle.moves.specs.declared.Held.{Held}
 use Rattle.rules.specs.Read.{point_in, points_from}
-use Rattle.rules.specs.Ready.{IndicesBelow, IsRound, RoundBelow}
+use Rattle.rules.specs.Ready.{IsRound, RoundBelow}
 use Rattle.rules.specs.Moves.{State}
 use Rattle.rules.specs.declared.Round.{Round}
 use Rattle.place.specs.Path.{answer}
@@ -43,37 +43,41 @@ module _ {g : GridStruct} {binomials start table : List ℕ} (readable : Readabl
   pub can_pad : (g.indices ≤ length start) × (g.indices ≤ 16)
   can_pad = (omega (arith, start-long), indices-few g readable.made)
 
-  pub problem-from : (taken : List ℕ) → taken ≡ front (take g.indices start) (replicate 16 0)
-      → problem_in g taken table ≡ problem_from g start table
-  problem-from taken e =
+  -- what is held at {v}
+  abbrev pub begins : Held
+  begins = record {
+    first = front (take g.indices start) (replicate 16 0);
+    coefficients = replicate 16 0;
+    order = replicate 16 0;
+    marks = replicate 16 0;
+  }
+
+  pub problem-from : problem_in g begins.first table ≡ problem_from g start table
+  problem-from =
       let f : take g.indices start ≡ start = rw (← start-long) (take-length start) in
       let h : take g.indices (front start (replicate 16 0)) ≡ start =
       rw (← start-long) (front_taken start (replicate 16 0)) in
-      rw (e, f, h)
+      rw (f, h)
 
   -- the pass can begin
-  pub can_pass : (round : Round) → IsRound (shape g) round → RoundBelow round
-      → (taken : List ℕ) → taken ≡ front (take g.indices start) (replicate 16 0)
-      → (order : List ℕ) → length order ≡ 16 → CanPass g round binomials taken order table
-  can_pass round is below taken e order long = record {
+  pub can_pass : (round : Round) → IsRound (shape g) round → RoundBelow round → {held : Held} → held ≡ begins
+      → CanPass g round binomials held table
+  can_pass round is below e = rw e (record {
     readable = readable;
     is_round = is;
     below = below;
-    accepted = rw (problem-from taken e) ok;
-    first_length = rw e
-        (front_length (take g.indices start) (replicate 16 0)
-        (rw (length-replicate, length-take) (omega (arith, indices-few g readable.made)))
-        ∙ length-replicate {A = ℕ} 16 0);
-    order_length = long;
-  }
+    accepted = rw problem-from ok;
+    no_coefficients = refl;
+    no_marks = refl;
+  })
 
   -- where it finished
-  pub finished_from : (taken : List ℕ) → taken ≡ front (take g.indices start) (replicate 16 0)
-      → (budget : ℕ) (round : Round) (first order : List ℕ) (f : Finish)
-      → Finished (problem_in g taken table) budget round first order f
-      → Finished (problem_from g start table) budget round first order f
-  finished_from taken e budget round first order f F =
-      subst (λ (p : Problem). Finished p budget round first order f) (problem-from taken e) F
+  pub finished_from : {held : Held} → held ≡ begins → (budget : ℕ) (round : Round) (last : Held) (f : Finish)
+      → Finished (problem_in g held.first table) budget round last f
+      → Finished (problem_from g start table) budget round last f
+  finished_from {held} e budget round last f F =
+      subst (λ (p : Problem). Finished p budget round last f)
+      (ap (λ (h : Held). problem_in g h.first table) e ∙ problem-from) F
 
 -- the answer at an end
 module _ (g : GridStruct) (made : IsMade g) (start table : List ℕ) (budget places : ℕ) (kind : Kind) (e : State) (h : ℕ)
@@ -96,45 +100,44 @@ module _ (g : GridStruct) (made : IsMade g) (start table : List ℕ) (budget pla
       ∙ length-up_from (first_point_of kind) (suc (length e.order) - first_point_of kind)
 
 -- where a pass finished is the answer, and can be announced
-module _ (g : GridStruct) (made : IsMade g) (start table : List ℕ) (budget : ℕ)
-    (previous next sizes first order : List ℕ) where
+module _ (g : GridStruct) (made : IsMade g) (start table : List ℕ) (budget : ℕ) (round : Round) (held : Held)
+    (long : length held.order ≡ 16) where
   abbrev pub FinishedBy : Finish → Type 0
-  FinishedBy = Finished (problem_from g start table) budget (round_of previous next sizes) first order
+  FinishedBy = Finished (problem_from g start table) budget round held
 
   pub finish_told : (f : Finish) → FinishedBy f
       → case_at g budget f ≡ case_of (answer (problem_from g start table) budget)
-  finish_told (Ended kind places h s read) (A, sixteen) =
-      let e = state_of (round_of previous next sizes) first [] order [] s in
+  finish_told (Ended kind places h s read) A =
+      let e = state_of round held s in
       let n = number g made start table budget places kind e h A in
-      let q = counted order s.count sixteen A.points.few in
+      let q = counted held.order s.count long A.points.few in
       rw (A.is, n, q)
   finish_told (UnknownLabel places position) is = rw is
   finish_told Spent is = rw is
 
-  pub finish_written : (f : Finish) → FinishedBy f → numbers_at g.indices (round_of previous [] sizes) first order f
+  pub finish_written : (f : Finish) → FinishedBy f → numbers_at g.indices round held f
       ≡ numbers_of (answer (problem_from g start table) budget)
-  finish_written (Ended kind places h s read) (A, sixteen) = rw (A.is, made-indices g made)
+  finish_written (Ended kind places h s read) A = rw (A.is, made-indices g made)
   finish_written (UnknownLabel places position) is = rw is
   finish_written Spent is = rw is
 
-  pub can_announce : (n : ℕ) → IndicesBelow previous → suc (dimension (shape g)) * num_indices (shape g) ≤ n
-      → (f : Finish) → FinishedBy f → CanAnnounce g (round_of previous [] sizes) first order n f
+  pub can_announce : (n : ℕ) → RoundBelow round → suc (dimension (shape g)) * num_indices (shape g) ≤ n
+      → (f : Finish) → FinishedBy f → CanAnnounce g round held n f
   can_announce n below fits f F = record {
     made = made;
     end = λ kind places h s read is.
-        let B = subst FinishedBy is F in
-        let A = B.0 in
-        let e = state_of (round_of previous next sizes) first [] order [] s in
+        let A = subst FinishedBy is F in
+        let e = state_of round held s in
         record {
           index = omega (arith, A.index, made-indices g made);
           points = record {
-            below = below;
+            below = below.backward;
             first_length = A.first_length;
             points = A.points;
             short = indices-few g made;
             low = A.low;
             fits = room g made start table budget places kind e h A n fits;
           };
-          many = counted order s.count B.1 A.points.few;
+          many = counted held.order s.count long A.points.few;
         };
   }

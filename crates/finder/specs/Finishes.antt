@@ -6,6 +6,7 @@ use Rattle.grid_points.specs.Grid.{block_of}
 use Rattle.grid.specs.Made.{IsMade, shape}
 use Rattle.grid.specs.declared.Grid.{Grid as GridStruct}
 use Rattle.moves.specs.Held.{state_of}
+use Rattle.moves.specs.declared.Held.{Held}
 use Rattle.moves.specs.declared.Status.{Status}
 use Rattle.path_pass.specs.Finish.{first_point_of}
 use Rattle.path_pass.specs.declared.Finish.{Finish}
@@ -24,12 +25,11 @@ case_at g budget (Ended kind places h s read) =
 case_at g budget (UnknownLabel places position) = Unknown places position
 case_at g budget BudgetSpent = Spent budget
 
--- the numbers that it writes, m for each vertex, with the first point and the order at the last place in their arrays
-abbrev pub numbers_at : ℕ → Round → List ℕ → List ℕ → Finish → List ℕ
-numbers_at m round first order (Ended kind places h s read) =
-    numbers_from m (state_of round first [] order [] s) (first_point_of kind)
-numbers_at m round first order (UnknownLabel places position) = []
-numbers_at m round first order BudgetSpent = []
+-- the numbers that it writes, m for each vertex, from what is held of the last place
+abbrev pub numbers_at : ℕ → Round → Held → Finish → List ℕ
+numbers_at m round held (Ended kind places h s read) = numbers_from m (state_of round held s) (first_point_of kind)
+numbers_at m round held (UnknownLabel places position) = []
+numbers_at m round held BudgetSpent = []
 
 -- the end at a state can be announced
 pub record CanAnnounceEnd (g : GridStruct) (e : State) (kind : Kind) (h count room : ℕ) : Type 0 where
@@ -37,7 +37,7 @@ pub record CanAnnounceEnd (g : GridStruct) (e : State) (kind : Kind) (h count ro
   pub points : CanPut e g.indices (first_point_of kind) room
   pub many : length e.order ≡ count
 
-pub record CanAnnounce (g : GridStruct) (round : Round) (first order : List ℕ) (room : ℕ) (f : Finish) : Type 0 where
+pub record CanAnnounce (g : GridStruct) (round : Round) (held : Held) (room : ℕ) (f : Finish) : Type 0 where
   pub made : IsMade g
   pub end : (kind : Kind) (places h : ℕ) (s : Status) (read : ℕ) → f ≡ Ended kind places h s read
-      → CanAnnounceEnd g (state_of round first [] order [] s) kind h s.count room
+      → CanAnnounceEnd g (state_of round held s) kind h s.count room

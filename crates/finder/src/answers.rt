@@ -1,6 +1,5 @@
 // The run on a label table: the customer's call.
-ghost use Rattle.std.specs.Prelude.{[], ◌≡◌, suc, ◌<◌, length};
-ghost use Rattle.arrays.specs.Rounds.{round_back, round_of};
+ghost use Rattle.std.specs.Prelude.{◌≡◌, suc, ◌<◌, length};
 ghost use Rattle.combinatorics.specs.Front.{front};
 ghost use Rattle.questions.specs.Questions.{first_no};
 ghost use Rattle.grid_points.specs.Grid.{block_of};
@@ -13,13 +12,14 @@ ghost use Rattle.finder.specs.Finishes.{CanAnnounce, case_at, numbers_at};
 ghost use Rattle.path_pass.specs.Finish.{first_point_of};
 ghost use Rattle.finder.specs.Run.{case_of, numbers_of, run_answer, run_buffer};
 
-use arrays::{block_sizes, padded};
+use arrays::round_of;
 use end_kinds::Kind;
 use grid::Grid;
 use label_table::all_at_most;
-use moves::put_points;
+use moves::Held;
 use path_pass::{Finish, pass};
 use positions::ENTRIES;
+use rules::Round;
 
 // What a run answers. The block counts from 1. The vertices, m numbers each, stand at the front of the answer buffer.
 #[derive(Clone, Copy)]
@@ -49,8 +49,7 @@ fn block_number(g: Grid, h: usize) -> u8
     requires { IsMade g × (h < g.indices) }
     ensures { result ≡ suc (block_of (shape g) h) }
 {
-    let j = g.block_of(h);
-    j as u8 + 1
+    g.block_of(h) as u8 + 1
 }
 
 // The number of the first point of the complete simplex: a facet end leaves out the first point of its place.
@@ -66,19 +65,15 @@ fn first_vertex(kind: Kind) -> usize
 // Where a pass finished, announced: the answer, and at an end its vertices at the front of the buffer.
 pub fn announce(
     g: Grid,
-    previous: &[u8; 16],
-    sizes: &[u8; 16],
-    first: &[u16; 16],
-    order: &[u32; 16],
+    round: &Round,
+    held: &Held,
     finish: Finish,
     answer: &mut [u16],
     budget: u64,
 ) -> RunAnswer
-    requires { CanAnnounce g (round_back previous sizes) first.now order.now (length answer.old) finish }
+    requires { CanAnnounce g round.now held.now (length answer.old) finish }
     ensures value { result ≡ case_at g budget finish }
-    ensures answer_after { answer.new ≡ front (numbers_at g.indices
-        (round_of previous.now [] sizes.now) first.now order.now finish)
-        answer.old }
+    ensures answer_after { answer.new ≡ front (numbers_at g.indices round.now held.now finish) answer.old }
 {
     match finish {
         Finish::Spent => RunAnswer::Spent(budget),
@@ -90,16 +85,13 @@ pub fn announce(
             status,
             labels_read,
         } => {
-            let block = block_number(g, index);
             let from = first_vertex(kind);
-            let vertices = put_points(
-                answer, previous, sizes, first, order, status, g.indices, from,
-            );
+            let vertices = held.put_points(round, status, g.indices, from, answer);
             RunAnswer::End {
                 places,
                 labels_read,
                 kind,
-                block,
+                block: block_number(g, index),
                 vertices,
             }
         }
@@ -121,16 +113,10 @@ pub fn announced(
     ensures answer_after { let p = answer_of (problem_from g start.now labels.now) budget in
         answer.new ≡ front (numbers_of p) answer.old }
 {
-    let m = g.indices;
-    let previous = g.previous;
-    let next = g.next;
-    let sizes = block_sizes(g);
-    let mut first = padded(start, m);
-    let mut order = [0u32; 16];
-    let finish = pass(
-        g, binomials, labels, &previous, &next, &sizes, &mut first, &mut order, budget,
-    );
-    announce(g, &previous, &sizes, &first, &order, finish, answer, budget)
+    let round = round_of(g);
+    let mut held = Held::at(start, g.indices);
+    let finish = pass(g, binomials, labels, &round, &mut held, budget);
+    announce(g, &round, &held, finish, answer, budget)
 }
 
 // Questions 5 to 8, on a grid that is accepted: the number of the first that is answered no, or 0.

@@ -10,7 +10,6 @@ use lib.Dec.{eqb, ltb}
 use lib.ListN.{length, replicate, take}
 use lib.Seq.{get_or-take}
 use native.Mathlib.Omega.{arith}
-use Rattle.arrays.specs.Rounds.{round_of}
 use Rattle.combinatorics.proofs.Basics.{before_or_not, same_or}
 use Rattle.combinatorics.proofs.Lists.{all_in, in_all, in_map, map_in, on_numbers}
 use Rattle.combinatorics.proofs.Ranges.{in_up_from, up_from_in}
@@ -44,18 +43,23 @@ use Rattle.rules.specs.Read.{mark_of, point_in, points_from, read, Falling}
 use Rattle.rules.specs.Ready.{IsRound, RoundBelow}
 use Rattle.rules.specs.Moves.{After, State, mark, goes, ends_at_place, ends_at_facet, make_move}
 use Rattle.rules.specs.declared.Round.{Round}
+use Rattle.moves.specs.declared.Held.{Held}
 use Rattle.moves.specs.declared.Status.{Status}
 use Rattle.marks.specs.Reading.{label_reading, table_problem, CanReadPoint, HasMarks}
-use Rattle.marks.specs.declared.LookedUp.TheVariants.{Marked, Unknown as UnknownLabel}
+use Rattle.marks.specs.declared.Unknown.{Unknown}
+use Rattle.std.proofs.Common.{Ok, Err}
 use Rattle.path_pass.specs.Finish.{Announced, CanVisit, IsBegun, IsKnown, IsUnknown, labels_at, problem_in}
 
 -- the ways round the blocks that a made grid keeps
 module _ (g : GridStruct) (made : IsMade g) (sizes : List ℕ) where
-  pub round-below : RoundBelow (round_of g.previous g.next sizes)
+  abbrev pub round_on : Round
+  round_on = record { previous = g.previous; next = g.next; sizes = sizes }
+
+  pub round-below : RoundBelow round_on
   round-below = record { backward = λ h l. previous-low g made h; forward = λ h l. following_low g made h }
 
   pub is-round : ((h : ℕ) → h < g.indices → at sizes h ≡ size (shape g) (block_of (shape g) h))
-      → IsRound (shape g) (round_of g.previous g.next sizes)
+      → IsRound (shape g) round_on
   is-round at-sizes = record {
     backward = λ h l. made-previous g made h (omega (arith, made-indices g made));
     forward = λ h l. made-next g made h (omega (arith, made-indices g made));
@@ -64,57 +68,18 @@ module _ (g : GridStruct) (made : IsMade g) (sizes : List ℕ) where
 
 -- a mark is that of a label that is known, and else the label is 0
 module _ (p : Problem) (y : Point) where
-  pub marked-known : {m : ℕ} → label_reading p y ≡ Marked m → (0 < label p y) × (m ≡ mark_of p y)
+  pub marked-known : {m : ℕ} → label_reading p y ≡ Ok m → (0 < label p y) × (m ≡ mark_of p y)
   marked-known {m} e = ⊎_elim
       (λ (z : label p y ≡ 0).
       absurd (let f = rw (eq-eqb (label p y) 0 z) at e in let w : ◌≡◌ {A = ℕ} 0 1 = cc in omega arith))
       (λ n. let f = rw (ne_eqb (label p y) 0 n) at e in (omega (arith, n), cc))
       (same_or (label p y) 0)
 
-  pub unknown-zero : {place : ℕ} → label_reading p y ≡ UnknownLabel place → (label p y ≡ 0)
-      × (place ≡ position p.grid y)
-  unknown-zero {place} e = ⊎_elim
+  pub unknown-zero : {e : Unknown} → label_reading p y ≡ Err e → (label p y ≡ 0) × (e.position ≡ position p.grid y)
+  unknown-zero {u} e = ⊎_elim
       (λ (z : label p y ≡ 0). let f = rw (eq-eqb (label p y) 0 z) at e in (z, cc))
       (λ n. absurd (let f = rw (ne_eqb (label p y) 0 n) at e in let w : ◌≡◌ {A = ℕ} 0 1 = cc in omega arith))
       (same_or (label p y) 0)
-
--- to read, the way on is not looked at
-module _ (g : GridStruct) (previous next sizes first coefficients order marks : List ℕ) (s : Status) where
-  abbrev a : State
-  a = state_of (round_of previous next sizes) first coefficients order marks s
-
-  abbrev back : State
-  back = state_of (round_of previous [] sizes) first coefficients order marks s
-
-  pub read_back : CanReadPoint g a → CanReadPoint g back
-  read_back R = record { below = R.below; first_length = R.first_length; point = R.point; on_grid = R.on_grid }
-
-  falling-back : (tails : List ℕ) (j lag : ℕ) → Falling (shape g) tails a j lag → Falling (shape g) tails back j lag
-  falling-back tails j lag F = record { falls = F.falls; tail = F.tail }
-
-  pub marks-back : (tails : List ℕ) → HasMarks g tails a → HasMarks g tails back
-  marks-back tails M = record {
-    square = λ one more low. let X = M.square one more low in record {
-      low = X.low;
-      near = X.near;
-      here = X.here;
-      gone = X.gone;
-      far = X.far;
-      to_here = X.to_here;
-      to_gone = X.to_gone;
-      to_far = X.to_far;
-      indices = X.indices;
-      near_mark = X.near_mark;
-      gone_mark = X.gone_mark;
-      far_mark = X.far_mark;
-    };
-    beside = λ one. let B = M.beside one in record {
-      near_mark = B.near_mark;
-      far_mark = B.far_mark;
-      from_near = λ m l. falling-back tails _ _ (B.from_near m l);
-      to_far = λ m l. falling-back tails _ _ (B.to_far m l);
-    };
-  }
 
 -- the state stands at place number k, from 0, of the path: of the path over the table with its gaps filled, as far as
 -- that is the table's own
@@ -129,7 +94,9 @@ HasRead p k labels = labels ≡ suc (came_in (path (filled_table p)).visited k)
 module _ (g : GridStruct) (made : IsMade g) (first table : List ℕ) (ok : Accepted (problem_in g first table)) where
   pub begins : {round : Round} → IsRound (shape g) round → length first ≡ 16 → (order : List ℕ) (s : Status)
       → IsBegun first g.indices s
-      → OnPath (problem_in g first table) (state_of round first (replicate 16 0) order (replicate 16 0) s) 0
+      → OnPath (problem_in g first table)
+      (state_of round
+      (record { first = first; coefficients = replicate 16 0; order = order; marks = replicate 16 0 }) s) 0
   begins N size order s B = (
     rw (B.rule, B.none, B.empty, B.active)
         (at_begin (filled_full (accepted-table ok)) N first s.u size (λ k l. sym (start-at k l)) mask_at),
@@ -255,14 +222,13 @@ module _ (g : GridStruct) (made : IsMade g) (start table : List ℕ) (ok : Accep
         rw (came_next t k, at_new full B, R) (omega arith)
 
     -- at an end, that is the answer
-    module _ (budget : ℕ) (round : Round) (first coefficients order marks : List ℕ) (status : Status)
-        (h places labels : ℕ) (q : places ≡ suc k) (l : k < budget)
+    module _ (budget : ℕ) (round : Round) (held : Held) (status : Status) (h places labels : ℕ) (q : places ≡ suc k) (l : k < budget)
         (R : labels ≡ suc (came_in (path (filled_table p)).visited k)) where
       abbrev last : State
-      last = state_of round first coefficients order marks status
+      last = state_of round held status
 
       announced : (kind : Kind) (from : ℕ) → EndsAt (filled_table p) kind from last h k
-          → Announced p budget kind from (state_of round first [] order [] status) h places labels
+          → Announced p budget kind from last h places labels
       announced kind from E = record {
         first_length = E.first_length;
         index = E.index;
@@ -274,11 +240,11 @@ module _ (g : GridStruct) (made : IsMade g) (start table : List ℕ) (ok : Accep
       }
 
       pub announced-place : NextAt (filled_table p) k (ends_at_place last h)
-          → Announced p budget place_end 0 (state_of round first [] order [] status) h places labels
+          → Announced p budget place_end 0 last h places labels
       announced-place (place_ends E) = announced place_end 0 E
 
       pub announced-facet : NextAt (filled_table p) k (ends_at_facet last h)
-          → Announced p budget facet_end 1 (state_of round first [] order [] status) h places labels
+          → Announced p budget facet_end 1 last h places labels
       announced-facet (facet_ends E) = announced facet_end 1 E
 
   -- where the label is not known, it is asked for

@@ -1,6 +1,6 @@
 -- What the pass along the path needs of its grid and table, and what it gives. The run's own promise does not cite it.
 -- Assumes nothing.
-use Rattle.std.specs.Prelude.{◌&&◌, cond, List, [], ◌≡◌, ℕ, suc, ◌+◌, ◌-◌, ◌≤◌, ◌<◌, eqb, ltb, length, take}
+use Rattle.std.specs.Prelude.{◌&&◌, cond, List, ◌≡◌, ℕ, suc, ◌+◌, ◌≤◌, ◌<◌, eqb, ltb, length, replicate, take}
 use Rattle.end_kinds.specs.declared.Kind.{Kind}
 use Rattle.end_kinds.specs.declared.Kind.TheVariants.{Facet as facet_end, Place as place_end}
 use Rattle.grid_points.specs.Grid.{at, block_of, dimension, num_indices, position}
@@ -15,8 +15,7 @@ use Rattle.rules.specs.Ready.{IsRound, RoundBelow, Ready}
 use Rattle.rules.specs.Read.{point_in, points_from, read, CanCompute}
 use Rattle.rules.specs.Moves.{State}
 use Rattle.rules.specs.declared.Round.{Round}
-use Rattle.moves.specs.declared.Outcome.{Outcome}
-use Rattle.moves.specs.declared.Outcome.TheVariants.{FacetEnd, Moved, PlaceEnd}
+use Rattle.moves.specs.declared.Held.{Held}
 use Rattle.moves.specs.declared.Status.{Status}
 use Rattle.marks.specs.Reading.{problem_from, table_problem, CanReadPoint, HasMarks, Readable}
 use Rattle.path_pass.specs.declared.Finish.{Finish}
@@ -28,13 +27,14 @@ abbrev pub problem_in : GridStruct → List ℕ → List ℕ → Problem
 problem_in g first table = problem_from g (take g.indices first) table
 
 -- what the pass asks
-pub record CanPass (g : GridStruct) (round : Round) (binomials first order table : List ℕ) : Type 0 where
+pub record CanPass (g : GridStruct) (round : Round) (binomials : List ℕ) (held : Held) (table : List ℕ)
+    : Type 0 where
   pub readable : Readable g binomials table
   pub is_round : IsRound (shape g) round
   pub below : RoundBelow round
-  pub accepted : Accepted (problem_in g first table)
-  pub first_length : length first ≡ 16
-  pub order_length : length order ≡ 16
+  pub accepted : Accepted (problem_in g held.first table)
+  pub no_coefficients : held.coefficients ≡ replicate 16 0
+  pub no_marks : held.marks ≡ replicate 16 0
 
 -- the label of the point that has come in is known, or nothing is read; or it is not, and stands at this position
 abbrev pub IsKnown : Problem → State → Type 0
@@ -59,13 +59,11 @@ labels_at rule = cond (ltb rule 6) 1 0
 
 -- where a pass stands once it has moved on
 abbrev pub on_of : Stand → Status → Stand
-on_of at s = record { status = s; left = at.left - 1; labels = at.labels + labels_at s.rule }
+on_of at s = record { status = s; labels = at.labels + labels_at s.rule }
 
--- how it ended, where the move from there has led to an end
-abbrev pub ended_of : Stand → Outcome → ℕ → Finish
-ended_of at (Moved s) budget = Spent
-ended_of at (PlaceEnd h) budget = Ended place_end (budget - at.left + 1) h at.status at.labels
-ended_of at (FacetEnd h) budget = Ended facet_end (budget - at.left + 1) h at.status at.labels
+-- how it ended, where the move from place number `visited`, from 0, has led to an end
+abbrev pub ended_of : Stand → Kind → ℕ → ℕ → Finish
+ended_of at kind h visited = Ended kind (visited + 1) h at.status at.labels
 
 -- the status at {v}, before the mark of its one point is read
 pub record IsBegun (first : List ℕ) (m : ℕ) (s : Status) : Type 0 where
@@ -76,14 +74,9 @@ pub record IsBegun (first : List ℕ) (m : ℕ) (s : Status) : Type 0 where
   pub zeros : (k : ℕ) → k < 16 → bit s.u k ≡ (ltb k m && eqb (at first k) 0)
 
 -- a pass that stands there, before any move
-pub record HasBegun (first : List ℕ) (m budget : ℕ) (at : Stand) : Type 0 where
+pub record HasBegun (first : List ℕ) (m : ℕ) (at : Stand) : Type 0 where
   pub status : IsBegun first m at.status
-  pub left : at.left ≡ budget
   pub labels : at.labels ≡ 1
-
--- how it ended, where its place needs the label at this position
-abbrev pub asked_of : Stand → ℕ → ℕ → Finish
-asked_of at position budget = UnknownLabel (budget - at.left) position
 
 -- the number of the first point of the complete simplex
 abbrev pub first_point_of : Kind → ℕ
@@ -102,10 +95,9 @@ pub record Announced (p : Problem) (budget : ℕ) (kind : Kind) (from : ℕ) (e 
   pub is : answer p budget
       ≡ ended places labels kind (suc (block_of p.grid h)) (length (points_from p e from)) (points_from p e from)
 
--- where a pass of at most `budget` places ends, with the first point and the order at the last place in its arrays
-abbrev pub Finished : Problem → ℕ → Round → List ℕ → List ℕ → Finish → Type 0
-Finished p budget round first order (Ended kind places h s labels) =
-    Announced p budget kind (first_point_of kind) (state_of round first [] order [] s) h places labels
-    × (length order ≡ 16)
-Finished p budget round first order (UnknownLabel places place) = answer p budget ≡ unknown places place
-Finished p budget round first order Spent = answer p budget ≡ spent budget
+-- where a pass of at most `budget` places ends, and what it holds of the last place
+abbrev pub Finished : Problem → ℕ → Round → Held → Finish → Type 0
+Finished p budget round held (Ended kind places h s labels) =
+    Announced p budget kind (first_point_of kind) (state_of round held s) h places labels
+Finished p budget round held (UnknownLabel places place) = answer p budget ≡ unknown places place
+Finished p budget round held Spent = answer p budget ≡ spent budget

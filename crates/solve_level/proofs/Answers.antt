@@ -1,12 +1,11 @@
 -- The pass of a game can begin, and where it finished is the run's answer. Assumes nothing.
 use mathlib.Core.List.{List, []}
-use mathlib.Core.Path.{◌≡◌, sym, ap, ◌∙◌, subst}
+use mathlib.Core.Path.{◌≡◌, refl, sym, ap, ◌∙◌, subst}
 use Prim.Native.Nat.{ℕ, suc, ◌-◌, ◌*◌, ◌≤◌, ◌<◌}
 use lib.ListN.{length, length-map, length-replicate, length-take, replicate, take}
 use lib.Seq.{take-length}
 use native.Mathlib.Nat.{mul-le-mul_right}
 use native.Mathlib.Omega.{arith}
-use Rattle.arrays.specs.Rounds.{round_of}
 use Rattle.combinatorics.proofs.EditsOfArrays.{counted}
 use Rattle.combinatorics.proofs.Fronts.{front_length, front_taken}
 use Rattle.combinatorics.proofs.Ranges.{length-up_from}
@@ -25,14 +24,14 @@ use Rattle.grid_points.specs.Grid.{Grid, at, block_of, dimension, lent, next, nu
 use Rattle.solve_pass.specs.Asked.{CanPassGame}
 use Rattle.game_weighed.specs.Levels.{Rests}
 use Rattle.moves.specs.Held.{state_of}
-use Rattle.path_pass.proofs.Visits.{is-round, round-below}
+use Rattle.moves.specs.declared.Held.{Held}
 use Rattle.path_pass.specs.Finish.{Announced, Finished, first_point_of}
 use Rattle.path_pass.specs.declared.Finish.{Finish}
 use Rattle.path_pass.specs.declared.Finish.TheVariants.{Ended, Spent, Unknown as UnknownLabel}
 use Rattle.place.specs.Path.{answer}
 use Rattle.place.specs.Problem.{Problem}
 use Rattle.rules.specs.Read.{point_in, points_from}
-use Rattle.rules.specs.Ready.{IsRound}
+use Rattle.rules.specs.Ready.{IsRound, RoundBelow}
 use Rattle.rules.specs.Moves.{State}
 use Rattle.rules.specs.declared.Round.{Round}
 
@@ -59,26 +58,31 @@ module _ {unit : GridStruct} {divisions losses start buffer : List ℕ}
       ap (λ z. length z.sizes) C.made.made ∙ front_length (shape unit).sizes (replicate 6 0) a.few_blocks in
       omega (arith, sizes, (blocks-range unit C.made).1)
 
-  pub start_taken : (taken : List ℕ) → taken ≡ front (take unit.indices start) (replicate 16 0)
-      → take unit.indices taken ≡ start
-  start_taken taken e =
+  -- what is held at {v}
+  abbrev pub begins : Held
+  begins = record {
+    first = front (take unit.indices start) (replicate 16 0);
+    coefficients = replicate 16 0;
+    order = replicate 16 0;
+    marks = replicate 16 0;
+  }
+
+  start_taken : take unit.indices begins.first ≡ start
+  start_taken =
       let f : take unit.indices start ≡ start = rw (← start-long) (take-length start) in
       let h : take unit.indices (front start (replicate 16 0)) ≡ start =
       rw (← start-long) (front_taken start (replicate 16 0)) in
-      rw (e, f, h)
+      rw (f, h)
 
   -- the ways round the blocks do not depend on the divisions
   round-alike : {round : Round} → IsRound (shape unit) round → IsRound g round
   unfolding next previous
   round-alike N = record { backward = N.backward; forward = N.forward; size = N.size }
 
-  pub can_pass : (rests : List ℕ) → Rests (lent (shape unit).sizes []) rests → (sizes : List ℕ)
-      → ((h : ℕ) → h < unit.indices → at sizes h ≡ size (shape unit) (block_of (shape unit) h))
-      → (taken : List ℕ) → taken ≡ front (take unit.indices start) (replicate 16 0)
-      → (order : List ℕ) → length order ≡ 16
-      → CanPassGame g unit.firsts unit.block rests losses unit.indices
-      (round_of unit.previous unit.next sizes) taken order
-  can_pass rests resting sizes at-sizes taken e order long = record {
+  pub can_pass : (rests : List ℕ) → Rests (lent (shape unit).sizes []) rests → (round : Round)
+      → IsRound (shape unit) round → RoundBelow round → {held : Held} → held ≡ begins
+      → CanPassGame g unit.firsts unit.block rests losses unit.indices round held
+  can_pass rests resting round is below e = rw e (record {
     game = λ y on. record {
       grid = C.grid;
       first = λ j l. made-first unit C.made j (omega (arith, made-blocks unit C.made));
@@ -89,28 +93,24 @@ module _ {unit : GridStruct} {divisions losses start buffer : List ℕ}
     resting = resting;
     low = C.low;
     many = made-indices unit C.made;
-    is_round = round-alike (is-round unit C.made sizes at-sizes);
-    below = round-below unit C.made sizes;
-    start = rw (start_taken taken e) C.on_grid;
-    first_length = rw e
-        (front_length (take unit.indices start) (replicate 16 0)
-        (rw (length-replicate, length-take) (omega (arith, indices-few unit C.made)))
-        ∙ length-replicate {A = ℕ} 16 0);
-    order_length = long;
-  }
+    is_round = round-alike is;
+    below = below;
+    start = rw start_taken C.on_grid;
+    no_coefficients = refl;
+    no_marks = refl;
+  })
 
-  module _ (budget : ℕ) (back on sizes first order : List ℕ) where
+  module _ (budget : ℕ) (round : Round) (last : Held) (long : length last.order ≡ 16) where
     abbrev pub FinishedBy : Finish → Type 0
-    FinishedBy = Finished p budget (round_of back on sizes) first order
+    FinishedBy = Finished p budget round last
 
-    pub finished_from : (taken : List ℕ) → taken ≡ front (take unit.indices start) (replicate 16 0) → (f : Finish)
-        → Finished (run_problem unit divisions losses (take unit.indices taken)) budget (round_of back on sizes) first
-        order f
+    pub finished_from : {held : Held} → held ≡ begins → (f : Finish)
+        → Finished (run_problem unit divisions losses (take unit.indices held.first)) budget round last f
         → FinishedBy f
-    finished_from taken e f F =
+    finished_from e f F =
         subst
-        (λ (v : List ℕ). Finished (run_problem unit divisions losses v) budget (round_of back on sizes) first order f)
-        (start_taken taken e) F
+        (λ (v : List ℕ). Finished (run_problem unit divisions losses v) budget round last f)
+        (ap (λ (h : Held). take unit.indices h.first) e ∙ start_taken) F
 
     module _ (kind : Kind) (places h read : ℕ) (e : State)
         (A : Announced p budget kind (first_point_of kind) e h places read) where
@@ -126,36 +126,33 @@ module _ {unit : GridStruct} {divisions losses start buffer : List ℕ}
           rw (made-indices unit C.made) (omega (arith, C.room))
 
     pub finish_told : (f : Finish) → FinishedBy f → case_at unit budget f ≡ case_of (answer p budget)
-    finish_told (Ended kind places h s read) (A, sixteen) =
-        let e = state_of (round_of back on sizes) first [] order [] s in
-        rw (A.is, number kind places h read e A, counted order s.count sixteen A.points.few)
+    finish_told (Ended kind places h s read) A =
+        rw (A.is, number kind places h read (state_of round last s) A, counted last.order s.count long A.points.few)
     finish_told (UnknownLabel places position) is = rw is
     finish_told Spent is = rw is
 
     pub finish_written : (f : Finish) → FinishedBy f
-        → numbers_at unit.indices (round_of back [] sizes) first order f ≡ numbers_of (answer p budget)
-    finish_written (Ended kind places h s read) (A, sixteen) = rw (A.is, made-indices unit C.made)
+        → numbers_at unit.indices round last f ≡ numbers_of (answer p budget)
+    finish_written (Ended kind places h s read) A = rw (A.is, made-indices unit C.made)
     finish_written (UnknownLabel places position) is = rw is
     finish_written Spent is = rw is
 
-    pub can_announce : (back ≡ unit.previous) → (f : Finish) → FinishedBy f
-        → CanAnnounce unit (round_of back [] sizes) first order (length buffer) f
-    can_announce q f F = record {
+    pub can_announce : RoundBelow round → (f : Finish) → FinishedBy f
+        → CanAnnounce unit round last (length buffer) f
+    can_announce below f F = record {
       made = C.made;
       end = λ kind places h s read is.
-          let B = subst FinishedBy is F in
-          let A = B.0 in
-          let e = state_of (round_of back on sizes) first [] order [] s in
+          let A = subst FinishedBy is F in
           record {
             index = omega (arith, A.index, made-indices unit C.made);
             points = record {
-              below = rw q (round-below unit C.made sizes).backward;
+              below = below.backward;
               first_length = A.first_length;
               points = A.points;
               short = indices-few unit C.made;
               low = A.low;
-              fits = fits kind places h read e A;
+              fits = fits kind places h read (state_of round last s) A;
             };
-            many = counted order s.count B.1 A.points.few;
+            many = counted last.order s.count long A.points.few;
           };
     }

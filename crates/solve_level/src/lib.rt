@@ -9,10 +9,11 @@ ghost use Rattle.finder.specs.Run.{case_of, numbers_of};
 ghost use Rattle.solve_level.specs.Runs.{CanRunGame, run_problem};
 ghost use Rattle.place.specs.Path.{answer as answer_of};
 
-use arrays::{block_sizes, padded};
+use arrays::round_of;
 use finder::{RunAnswer, announce};
 use game_weighed::rests;
 use grid::Grid;
+use moves::Held;
 use solve_pass::pass;
 
 // The pass along the path of the game, and its answer.
@@ -30,16 +31,12 @@ pub fn run(
     ensures answer_after { let p = run_problem unit divisions.now losses.now start.now in
         answer.new ≡ front (numbers_of (answer_of p budget)) answer.old }
 {
-    let m = unit.indices;
-    let blocks = unit.blocks;
     let own_sizes = unit.sizes;
     let firsts = unit.firsts;
     let owners = unit.block;
-    let previous = unit.previous;
-    let next = unit.next;
-    let sizes = block_sizes(unit);
-    let mut first = padded(start, m);
-    let mut order = [0u32; 16];
+    let blocks = unit.blocks;
+    let round = round_of(unit);
+    let mut held = Held::at(start, unit.indices);
     let lengths = rests(&own_sizes[..blocks]);
     let finish = pass(
         &own_sizes[..blocks],
@@ -48,15 +45,10 @@ pub fn run(
         &owners,
         &lengths,
         losses,
-        m,
-        &previous,
-        &next,
-        &sizes,
-        &mut first,
-        &mut order,
+        unit.indices,
+        &round,
+        &mut held,
         budget,
     );
-    announce(
-        unit, &previous, &sizes, &first, &order, finish, answer, budget,
-    )
+    announce(unit, &round, &held, finish, answer, budget)
 }

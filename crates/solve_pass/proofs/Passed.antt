@@ -6,7 +6,7 @@ use mathlib.Core.Path.{◌≡◌, refl, sym, ap, ◌∙◌}
 use Prim.Native.Nat.{ℕ, suc, ◌+◌, ◌-◌, ◌≤◌, ◌<◌}
 use borrow.Author.Tests.{le-ltb, lt-ltb}
 use lib.Dec.{eqb, ltb}
-use lib.ListN.{replicate, take}
+use lib.ListN.{length, replicate, take}
 use lib.Seq.{get_or-take}
 use native.Mathlib.Omega.{arith}
 use Rattle.combinatorics.proofs.Basics.{before_or_not}
@@ -17,6 +17,7 @@ use Rattle.solve_pass.proofs.Places.{BareAt, at-facet-end, at-place-end, can_vis
 use Rattle.solve_pass.specs.Bare.{bare_after, labelled}
 use Rattle.solve_pass.specs.Asked.{CanPassGame, CanVisitGame}
 use Rattle.moves.specs.Held.{state_of}
+use Rattle.moves.specs.declared.Held.{Held}
 use Rattle.moves.specs.declared.Status.{Status}
 use Rattle.path_laws.proofs.Filled.{FullyLabelled}
 use Rattle.path_laws.proofs.LabelsRead.{came_few, came_next, came_none}
@@ -34,12 +35,12 @@ use Rattle.rules.specs.Ready.{RoundBelow}
 use Rattle.rules.specs.Moves.{After, State, begun, ends_at_facet, ends_at_place, goes, make_move}
 use Rattle.rules.specs.declared.Round.{Round}
 
-pub game_full : {g : Grid} {firsts owners rests losses : List ℕ} {indices : ℕ} {round : Round} {first order : List ℕ}
-    → CanPassGame g firsts owners rests losses indices round first order
-    → FullyLabelled (game_problem g (take indices first) losses)
-game_full {g} {firsts} {owners} {rests} {losses} {indices} {round} {first} w =
-    let m = (w.game (take indices first) w.start).grid in
-    full_game g (take indices first) losses (record {
+pub game_full : {g : Grid} {firsts owners rests losses : List ℕ} {indices : ℕ} {round : Round} {held : Held}
+    → CanPassGame g firsts owners rests losses indices round held
+    → FullyLabelled (game_problem g (take indices held.first) losses)
+game_full {g} {firsts} {owners} {rests} {losses} {indices} {round} {held} w =
+    let m = (w.game (take indices held.first) w.start).grid in
+    full_game g (take indices held.first) losses (record {
       some_block = m.some_block;
       few_blocks = m.few_blocks;
       sizes_two = m.sizes_two;
@@ -56,29 +57,27 @@ HasReadSoFar p k labels = labels ≡ suc (came_in (path p).visited k)
 pub begins-reading : (p : Problem) (labels rule : ℕ) → labels ≡ labels_at rule → rule ≡ 1 → HasReadSoFar p 0 labels
 begins-reading p labels rule e r = rw (e, r, came_none (path p).visited) refl
 
--- the place's number is what is spent of the budget
-pub record Passing (p : Problem) (budget : ℕ) (a : Stand) (s : State) : Type 0 where
-  pub here : BareAt p s (budget - a.left)
-  pub low : a.left ≤ budget
-  pub read : HasReadSoFar p (budget - a.left) a.labels
+-- the pass stands at place number `visited`, from 0
+pub record Passing (p : Problem) (visited : ℕ) (a : Stand) (s : State) : Type 0 where
+  pub here : BareAt p s visited
+  pub read : HasReadSoFar p visited a.labels
 
-module _ {g : Grid} {firsts owners rests losses : List ℕ} {indices : ℕ} {round : Round} {first order₀ : List ℕ}
-    (w : CanPassGame g firsts owners rests losses indices round first order₀) where
+module _ {g : Grid} {firsts owners rests losses : List ℕ} {indices : ℕ} {round : Round} {held : Held}
+    (w : CanPassGame g firsts owners rests losses indices round held) where
   abbrev p : Problem
-  p = game_problem g (take indices first) losses
+  p = game_problem g (take indices held.first) losses
 
-  start-at : (k : ℕ) → k < num_indices g → at (take indices first) k ≡ at first k
-  start-at k l = get_or-take indices first k 0 (omega (arith, w.many))
+  start-at : (k : ℕ) → k < num_indices g → at (take indices held.first) k ≡ at held.first k
+  start-at k l = get_or-take indices held.first k 0 (omega (arith, w.many))
 
-  pub begins : (order : List ℕ) (s : Status) → IsBegun first indices s
-      → BareAt p (state_of round first (replicate 16 0) order (replicate 16 0) s) 0
-  begins order s B = record {
-    full = begun round first s.u;
-    at = at_begin (game_full w) w.is_round first s.u w.first_length (λ k l. sym (start-at k l)) mask_at;
-    is = rw (B.rule, B.none, B.empty, B.active);
+  pub begins : length held.first ≡ 16 → (s : Status) → IsBegun held.first indices s → BareAt p (state_of round held s) 0
+  begins long s B = record {
+    full = begun round held.first s.u;
+    at = at_begin (game_full w) w.is_round held.first s.u long (λ k l. sym (start-at k l)) mask_at;
+    is = rw (w.no_coefficients, w.no_marks, B.rule, B.none, B.empty, B.active);
   }
     where
-      mask_at : (k : ℕ) → k < 16 → bit s.u k ≡ (ltb k (num_indices g) && eqb (at (take indices first) k) 0)
+      mask_at : (k : ℕ) → k < 16 → bit s.u k ≡ (ltb k (num_indices g) && eqb (at (take indices held.first) k) 0)
       mask_at k l = ⊎_elim
           (λ (x : k < indices). B.zeros k l
           ∙ rw (
@@ -100,70 +99,57 @@ module _ {g : Grid} {firsts owners rests losses : List ℕ} {indices : ℕ} {rou
   spends k s B budget l = at-spent (game_full w) B.at budget l
 
   -- a place that is not past the budget
-  module _ (budget : ℕ) (a : Stand) (s : State) (P : Passing p budget a s) (more : 0 < a.left) where
-    abbrev k : ℕ
-    k = budget - a.left
-
-    within : k < budget
-    within = omega (arith, P.low, more)
-
+  module _ (budget k : ℕ) (a : Stand) (s : State) (P : Passing p k a s) (more : k < budget) where
     pub can_look : RoundBelow s.round → CanVisitGame g firsts owners rests losses indices s
     can_look below =
-        can_visit g (take indices first) losses (game_full w) s k P.here rests w.resting below w.many w.game
+        can_visit g (take indices held.first) losses (game_full w) s k P.here rests w.resting below w.many w.game
 
     leads_on_lem : (after : After) → after ≡ make_move (labelled g losses s) → after
         ≡ bare_after (make_move (read p P.here.full))
-    leads_on_lem = leads g (take indices first) losses (game_full w) s k P.here
+    leads_on_lem = leads g (take indices held.first) losses (game_full w) s k P.here
 
     to : NextAt p k (make_move (read p P.here.full))
-    to = leads_to g (take indices first) losses (game_full w) s k P.here
+    to = leads_to g (take indices held.first) losses (game_full w) s k P.here
 
     -- the move has led to the next place: there is one label more, if a point has come in,
     module _ (x : State) (q : goes x ≡ make_move (labelled g losses s)) where
       next : BareAt p x (suc k)
       next = moved_on to (leads_on_lem (goes x) q)
 
-      pub labels-fit : 1 < a.left → a.labels + labels_at x.rule ≤ budget
+      pub labels-fit : k + 1 < budget → a.labels + labels_at x.rule ≤ budget
       labels-fit two =
-          omega (arith, reads_on k a.labels P.read x next, came_few (path p).visited (suc k), P.low, two)
+          omega (arith, reads_on k a.labels P.read x next, came_few (path p).visited (suc k), two)
 
-      pub passes_on : (b : Stand) → b.left ≡ a.left - 1 → b.labels ≡ a.labels + labels_at x.rule
-          → Passing p budget b x
-      passes_on b l r =
-          let z : budget - b.left ≡ suc k = omega (arith, P.low, more) in
-          record {
-            here = rw z next;
-            low = omega (arith, P.low);
-            read = rw (z, r) (reads_on k a.labels P.read x next);
-          }
+      pub passes_on : (b : Stand) → b.labels ≡ a.labels + labels_at x.rule → Passing p (k + 1) b x
+      passes_on b r =
+          let z : k + 1 ≡ suc k = omega arith in
+          record { here = rw z next; read = rw (z, r) (reads_on k a.labels P.read x next) }
 
-      pub spent-here : a.left ≡ 1 → answer p budget ≡ spent budget
+      pub spent-here : k + 1 ≡ budget → answer p budget ≡ spent budget
       spent-here one = spends (suc k) x next budget (omega arith)
 
     -- or to an end, which is the answer
-    module _ (first' coefficients order marks : List ℕ) (status : Status) (h : ℕ) where
+    module _ (last : Held) (status : Status) (h : ℕ) where
       abbrev e : State
-      e = state_of round first' coefficients order marks status
+      e = state_of round last status
 
       announced : (kind : Kind) (from : ℕ) → EndsAt p kind from e h k
-          → Announced p budget kind from (state_of round first' [] order [] status) h (budget - a.left + 1) a.labels
+          → Announced p budget kind from e h (k + 1) a.labels
       announced kind from E =
-          let z : budget - a.left + 1 ≡ suc k = omega arith in
+          let z : k + 1 ≡ suc k = omega arith in
           record {
             first_length = E.first_length;
             index = E.index;
             few = E.few;
             low = E.low;
             points = E.points;
-            is = rw (z, P.read) (ends-answer E budget within);
+            is = rw (z, P.read) (ends-answer E budget more);
           }
 
       pub place-ends : ends_at_place e h ≡ make_move (labelled g losses s)
-          → Announced p budget place_end 0 (state_of round first' [] order [] status) h (budget - a.left + 1)
-          a.labels
+          → Announced p budget place_end 0 e h (k + 1) a.labels
       place-ends q = announced place_end 0 (at-place-end to (leads_on_lem (ends_at_place e h) q))
 
       pub facet-ends : ends_at_facet e h ≡ make_move (labelled g losses s)
-          → Announced p budget facet_end 1 (state_of round first' [] order [] status) h (budget - a.left + 1)
-          a.labels
+          → Announced p budget facet_end 1 e h (k + 1) a.labels
       facet-ends q = announced facet_end 1 (at-facet-end to (leads_on_lem (ends_at_facet e h) q))

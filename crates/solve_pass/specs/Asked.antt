@@ -1,5 +1,5 @@
 -- What the pass along the path of a game asks. Assumes nothing.
-use Rattle.std.specs.Prelude.{true, List, [], ◌≡◌, ℕ, ◌<◌, leb, length, take}
+use Rattle.std.specs.Prelude.{true, List, [], ◌≡◌, ℕ, ◌<◌, leb, length, replicate, take}
 use Rattle.combinatorics.specs.Lists.{all}
 use Rattle.grid_points.specs.Grid.{Grid, Point, is_grid_point, lent, num_indices}
 use Rattle.solve_pass.specs.Bare.{labelled}
@@ -9,6 +9,7 @@ use Rattle.rules.specs.Read.{CanCompute, point_on}
 use Rattle.rules.specs.Ready.{IndicesBelow, IsRound, Ready, RoundBelow}
 use Rattle.rules.specs.Moves.{State}
 use Rattle.rules.specs.declared.Round.{Round}
+use Rattle.moves.specs.declared.Held.{Held}
 
 -- the point that has just come in can be computed, and is a grid point of the game
 pub record CanLabel (g : Grid) (firsts owners rests losses : List ℕ) (indices : ℕ) (a : State) : Type 0 where
@@ -26,8 +27,7 @@ pub record CanVisitGame (g : Grid) (firsts owners rests losses : List ℕ) (indi
   pub ready : Ready (labelled g losses a)
 
 -- what the pass asks
-pub record CanPassGame (g : Grid) (firsts owners rests losses : List ℕ) (indices : ℕ) (round : Round)
-    (first order : List ℕ)
+pub record CanPassGame (g : Grid) (firsts owners rests losses : List ℕ) (indices : ℕ) (round : Round) (held : Held)
     : Type 0 where
   pub game : (y : Point) → is_grid_point g y ≡ true → GameAt g firsts owners losses y
   pub resting : Rests (lent g.sizes []) rests
@@ -35,6 +35,6 @@ pub record CanPassGame (g : Grid) (firsts owners rests losses : List ℕ) (indic
   pub many : indices ≡ num_indices g
   pub is_round : IsRound g round
   pub below : RoundBelow round
-  pub start : is_grid_point g (take indices first) ≡ true
-  pub first_length : length first ≡ 16
-  pub order_length : length order ≡ 16
+  pub start : is_grid_point g (take indices held.first) ≡ true
+  pub no_coefficients : held.coefficients ≡ replicate 16 0
+  pub no_marks : held.marks ≡ replicate 16 0

@@ -3,22 +3,22 @@
 // a game, which shows what it asks.
 #![tactic(auto)]
 
-ghost use Rattle.std.specs.Prelude.{[], ◌≡◌, ◌<◌, take};
-ghost use Rattle.arrays.specs.Rounds.{round_of};
+ghost use Rattle.std.specs.Prelude.{◌≡◌, ◌<◌, take};
 ghost use Rattle.grid_points.specs.Grid.{lent};
 ghost use Rattle.solve_pass.specs.Bare.{labelled};
 ghost use Rattle.solve_pass.specs.Asked.{CanLabel, CanPassGame, CanVisitGame};
 ghost use Rattle.game_losses.specs.Game.{game_label};
-ghost use Rattle.moves.specs.Held.{GivesAll, held, state_of};
+ghost use Rattle.moves.specs.Held.{answered, state_of};
 ghost use Rattle.path_pass.specs.Finish.{Finished};
 ghost use Rattle.rules.specs.Read.{point_on};
-ghost use Rattle.rules.specs.Ready.{SixteenEach};
 ghost use Rattle.refinement_levels.specs.Levels.{game_problem};
-ghost use Rattle.rules.specs.Moves.{State, make_move};
+ghost use Rattle.rules.specs.Moves.{make_move};
 
+use end_kinds::Kind;
 use game_point::label_at;
-use moves::{Outcome, Status, advance};
-use path_pass::{Finish, Stand, begin, ended, on};
+use moves::{Held, Outcome, Status, advance};
+use path_pass::{Finish, begun, ended, on};
+use rules::Round;
 use ways::make_move;
 
 // The label of the point that has just come in.
@@ -30,21 +30,17 @@ fn label_in(
     rests: &[usize; 36],
     losses: &[u16],
     indices: usize,
-    previous: &[u8; 16],
-    block_sizes: &[u8; 16],
-    first: &[u16; 16],
-    order: &[u32; 16],
+    round: &Round,
+    held: &Held,
     s: Status,
 ) -> u8
-    requires { let a = state_of (round_of previous.now [] block_sizes.now) first.now [] order.now [] s in
-        CanLabel (lent sizes.now divisions.now) firsts.now owners.now rests.now losses.now
-        indices a }
-    ensures { let a = state_of (round_of previous.now [] block_sizes.now) first.now [] order.now [] s in
-        let g = lent sizes.now divisions.now in
-        result ≡ game_label g losses.now (point_on g a a.active) }
+    requires { CanLabel (lent sizes.now divisions.now) firsts.now owners.now rests.now losses.now indices
+        (state_of round.now held.now s) }
+    ensures { let g = lent sizes.now divisions.now in
+        result ≡ game_label g losses.now (point_on g (state_of round.now held.now s) s.active) }
 {
-    let mut point = *first;
-    advance(&mut point, previous, block_sizes, s.u, order, s.active);
+    let mut point = held.first;
+    advance(&mut point, round, s.u, &held.order, s.active);
     let seen = label_at(
         sizes,
         divisions,
@@ -66,53 +62,22 @@ fn visit(
     rests: &[usize; 36],
     losses: &[u16],
     indices: usize,
-    previous: &[u8; 16],
-    next: &[u8; 16],
-    block_sizes: &[u8; 16],
-    first: &mut [u16; 16],
-    coefficients: &mut [u16; 16],
-    order: &mut [u32; 16],
-    marks: &mut [u32; 16],
+    round: &Round,
+    held: &mut Held,
     s: Status,
 ) -> Outcome
-    requires sixteen_each { SixteenEach order.old marks.old }
-    requires can_visit_game { let a = held (round_of previous.now next.now block_sizes.now) first.old
-        coefficients.old order.old marks.old s in
-        CanVisitGame (lent sizes.now divisions.now) firsts.now owners.now rests.now losses.now
-        indices a }
-    ensures { let a = held (round_of previous.now next.now block_sizes.now) first.old coefficients.old order.old
-        marks.old s in
-        let g = lent sizes.now divisions.now in
-        GivesAll a first coefficients order marks s result (make_move (labelled g losses.now a)) }
+    requires { CanVisitGame (lent sizes.now divisions.now) firsts.now owners.now rests.now losses.now indices
+        (state_of round.now held.old s) }
+    ensures { let a = state_of round.now held.old s in
+        answered round.now held.new s result ≡ make_move (labelled (lent sizes.now divisions.now) losses.now a) }
 {
     if s.rule < 6 {
-        let i = s.active;
         let label = label_in(
-            sizes,
-            divisions,
-            firsts,
-            owners,
-            rests,
-            losses,
-            indices,
-            previous,
-            block_sizes,
-            first,
-            order,
-            s,
+            sizes, divisions, firsts, owners, rests, losses, indices, round, held, s,
         );
-        marks[i] = label as u32;
+        held.marks[s.active] = u32::from(label);
     }
-    make_move(
-        previous,
-        next,
-        block_sizes,
-        first,
-        coefficients,
-        order,
-        marks,
-        s,
-    )
+    make_move(held, round, s)
 }
 
 // From {v} to the path's end, or until the budget is spent. From the budget's last place the pass does not move on, so
@@ -125,57 +90,29 @@ pub fn pass(
     rests: &[usize; 36],
     losses: &[u16],
     indices: usize,
-    previous: &[u8; 16],
-    next: &[u8; 16],
-    block_sizes: &[u8; 16],
-    first: &mut [u16; 16],
-    order: &mut [u32; 16],
+    round: &Round,
+    held: &mut Held,
     budget: u64,
 ) -> Finish
-    requires { let w = round_of previous.now next.now block_sizes.now in
-        CanPassGame (lent sizes.now divisions.now) firsts.now owners.now rests.now losses.now
-        indices w first.old order.old }
-    ensures { let w = round_of previous.now next.now block_sizes.now in let g = lent sizes.now divisions.now in
-        Finished (game_problem g (take indices first.old) losses.now) budget w
-        first.new order.new result }
+    requires { CanPassGame (lent sizes.now divisions.now) firsts.now owners.now rests.now losses.now indices
+        round.now held.old }
+    ensures { let g = lent sizes.now divisions.now in
+        Finished (game_problem g (take indices held.old.first) losses.now) budget round.now held.new result }
 {
-    let mut coefficients = [0u16; 16];
-    let mut marks = [0u32; 16];
-    let mut at = Stand {
-        status: begin(first, indices),
-        left: budget,
-        labels: 1,
-    };
-    while 0 < at.left {
-        let s = at.status;
+    let mut at = begun(&held.first, indices);
+    for visited in 0..budget {
         let outcome = visit(
-            sizes,
-            divisions,
-            firsts,
-            owners,
-            rests,
-            losses,
-            indices,
-            previous,
-            next,
-            block_sizes,
-            first,
-            &mut coefficients,
-            order,
-            &mut marks,
-            s,
+            sizes, divisions, firsts, owners, rests, losses, indices, round, held, at.status,
         );
-        if let Outcome::PlaceEnd(_) = outcome {
-            return ended(at, outcome, budget);
-        }
-        if let Outcome::FacetEnd(_) = outcome {
-            return ended(at, outcome, budget);
-        }
-        if let Outcome::Moved(status) = outcome {
-            if at.left == 1 {
-                return Finish::Spent;
+        match outcome {
+            Outcome::Moved(status) => {
+                if visited + 1 == budget {
+                    return Finish::Spent;
+                }
+                at = on(at, status);
             }
-            at = on(at, status);
+            Outcome::PlaceEnd(index) => return ended(at, Kind::Place, index, visited),
+            Outcome::FacetEnd(index) => return ended(at, Kind::Facet, index, visited),
         }
     }
     Finish::Spent

@@ -1,51 +1,34 @@
 -- `label_in` meets its contract: the steps of the order lead to the point, whose label is worked out. Assumes nothing.
-use mathlib.Core.Path.{◌≡◌, sym, ap, ◌∙◌}
-use native.Mathlib.Omega.{arith}
-use lib.ListN.{length}
+use Rattle.std.proofs.Common.{◌≡◌, sym, ap, ◌∙◌, rules, arith}
 use lib.Seq.{length-take-le}
 use Rattle.grid_points.specs.Grid.{lent}
-use Rattle.solve_pass.proofs.Points.{point-is, point-long, ready-steps}
+use Rattle.solve_pass.proofs.Points.{point-is, ready-steps}
 use Rattle.game_losses.specs.Game.{game_label}
 use Rattle.solve_pass.proofs.label_in.Goals as goal
-use Rattle.solve_pass.proofs.label_in.Goals.{After-advance}
-
-long : (c : After-advance) → length c.advance.new.y ≡ 16
-long c =
-    let a = c.args in
-    point-long a.previous.now a.block_sizes.now a.first.now a.order.now a.s c.requires
-    c.advance.new.y c.advance.ensures
 
 pub advance-requires : goal.advance-requires
 advance-requires c =
     let a = c.args in
-    record {
-      indices_below = c.requires.below;
-      ready_point = ready-steps a.previous.now a.block_sizes.now a.first.now a.order.now a.s c.requires;
-    }
+    record { indices_below = c.requires.below; ready_point = ready-steps a.round.now a.held.now a.s c.requires }
 
 pub slice_bounds-point-end : goal.slice_bounds-point-end
-slice_bounds-point-end c =
-    let w = c.requires in
-    omega (arith, long c, w.many, w.game.grid.few_indices)
+slice_bounds-point-end c = let w = c.requires in omega (arith, w.many, w.game.grid.few_indices)
 
 pub slice_bounds-label_at-end : goal.slice_bounds-label_at-end
-slice_bounds-label_at-end c = sym (length-take-le _ _ (let w = c.requires in
-    omega (arith, long (goal.at.slice_bounds-label_at-end c).After-advance, w.many, w.game.grid.few_indices)))
+slice_bounds-label_at-end c =
+    let w = c.requires in sym (length-take-le _ _ (omega (arith, w.many, w.game.grid.few_indices)))
 
 pub label_at-seen-requires : goal.label_at-seen-requires
 label_at-seen-requires c =
     let a = c.args in
     record {
-      game_at = rw (point-is a.previous.now a.block_sizes.now a.first.now a.order.now a.s c.requires
-          c.advance.new.y c.advance.ensures) c.requires.game;
+      game_at = rw (point-is a.round.now a.held.now a.s c.requires c.advance.new.y c.advance.ensures) c.requires.game;
       rests = c.requires.resting;
     }
 
 pub returns : goal.returns
 returns c =
     let a = c.args in
-    let g = lent a.sizes.now a.divisions.now in
     c.label_at-seen.ensures.0
-    ∙ ap (game_label g a.losses.now)
-    (point-is a.previous.now a.block_sizes.now a.first.now a.order.now a.s c.requires
-    c.advance.new.y c.advance.ensures)
+    ∙ ap (game_label (lent a.sizes.now a.divisions.now) a.losses.now)
+    (point-is a.round.now a.held.now a.s c.requires c.advance.new.y c.advance.ensures)

@@ -7,8 +7,8 @@ use Rattle.finder.proofs.answers.announce.Goals as goal
 pub enum_told-1 : goal.enum_told-1
 enum_told-1 c = search rules
 
-pub block_number-block-requires : goal.block_number-block-requires
-block_number-block-requires c =
+pub block_number-requires : goal.block_number-requires
+block_number-requires c =
     (c.requires.made, (c.requires.end _ _ _ _ _ c.in-Ended.is).index)
 
 pub put_points-vertices-requires : goal.put_points-vertices-requires
@@ -30,5 +30,5 @@ returns-in-Ended c =
     let e = c.requires.end _ _ _ _ _ is in
     let from = c.first_vertex-from.ensures in
     let put = c.put_points-vertices.ensures in
-    let block = c.block_number-block.ensures in
+    let block = c.block_number.ensures in
     record { value = rw (is, block, c.put_points-vertices.ensures.value, from, e.many); answer_after = rw (is, c.put_points-vertices.ensures.buf_after, from) }

@@ -1,4 +1,4 @@
--- `sizes::block_sizes` meets its contract. The invariant: the sizes of the blocks of the indices below h are there. The
+-- `ways::block_sizes` meets its contract. The invariant: the sizes of the blocks of the indices below h are there. The
 -- measure: the indices left. Assumes nothing.
 use mathlib.Core.Logic.{⊎_elim}
 use mathlib.Core.Path.{◌≡◌, ap, ◌∙◌}
@@ -13,7 +13,7 @@ use Rattle.grid_points.proofs.Round.{block_spans}
 use Rattle.grid_points.specs.Grid.{at}
 use Rattle.grid.specs.Made.{IsMade, shape}
 use Rattle.grid.specs.declared.Grid.{Grid as GridStruct}
-use Rattle.arrays.proofs.sizes.block_sizes.Goals as goal
+use Rattle.arrays.proofs.ways.block_sizes.Goals as goal
 
 -- the block of an index is one of the grid's
 in_blocks : (g : GridStruct) → IsMade g → (h : ℕ) → h < g.indices → at g.block h < g.blocks
