@@ -12,12 +12,13 @@ use Rattle.place.specs.Path.{answer}
 use Rattle.place.specs.Problem.{Problem}
 use Rattle.rules.specs.declared.Round.{Round}
 use Rattle.nearest_pass.specs.Survey.{Surveys}
-use Rattle.nearest_pass.specs.declared.Nearest.{Nearest}
+use Rattle.nearest_pass.specs.declared.Vertex.{Vertex}
+use Rattle.std.specs.Prelude.{Option}
 use Rattle.nearest_visited.specs.Nearest.{positions_within}
 use Rattle.nearest.specs.Report.{listed_by, nearest_in}
 
 module _ (p : Problem) (w : Point) (given budget : ℕ) (round : Round) (first order old new : List ℕ)
-    (r : Nearest) where
+    (r : Option Vertex) where
   pub finish_nearest : (f : Finish) → Finished p budget round first order f → Surveys p w given budget old new r f
       → r ≡ nearest_in p w given (answer p budget)
   finish_nearest (Ended kind places h s read) (A, sixteen) S = rw A.is S.0

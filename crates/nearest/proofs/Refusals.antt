@@ -27,7 +27,8 @@ use Rattle.finder.specs.declared.answers.RunAnswer.TheVariants.{End, Refused, Un
 use Rattle.nearest_visited.proofs.Nearest.{is-list}
 use Rattle.nearest_visited.specs.Questions.{point_questions, question8_list}
 use Rattle.nearest.specs.Report.{near_answer_buffer, list_buffer, listed_by, near_refusal, nearest_in, report_of}
-use Rattle.nearest_pass.specs.declared.Nearest.TheVariants.{Nothing, Vertex}
+use Rattle.nearest_pass.specs.declared.Vertex.{Vertex}
+use Rattle.std.specs.Prelude.{None, Some}
 
 module _ (p : Problem) (w : Point) (room list_room : ℕ) where
   pub by_grid : (first_no (grid_questions p.grid) ≡ 0 → ⊥)
@@ -97,7 +98,7 @@ module _ (p : Problem) (w : Point) (room list_room : ℕ) where
 -- the answer and the buffers
 module _ (p : Problem) (w : Point) (given budget : ℕ) (old list : List ℕ) where
   pub refused : (n : ℕ) → (n ≡ 0 → ⊥) → near_refusal p w (length old) (length list) ≡ n
-      → (record { run = Refused n; nearest = Nothing } ≡ report_of p w given (length old) (length list) budget)
+      → (record { run = Refused n; nearest = None } ≡ report_of p w given (length old) (length list) budget)
       × (old ≡ near_answer_buffer p w (length list) budget old) × (list ≡ list_buffer p w given (length old) budget list)
   unfolding report_of near_answer_buffer list_buffer
   refused n z e =
@@ -134,14 +135,14 @@ module _ (p : Problem) (budget : ℕ) where
   at-end e = case_ended (answer p budget) e
 
 -- what is reported tells what is listed: nothing; or as many positions as it says, which are no more than the points
-pub none_of : (p : Problem) (w : Point) (given : ℕ) (a : PathAnswer) → nearest_in p w given a ≡ Nothing
+pub none_of : (p : Problem) (w : Point) (given : ℕ) (a : PathAnswer) → nearest_in p w given a ≡ None
     → listed_by p w given a ≡ []
 none_of p w given (spent n) e = refl
 none_of p w given (unknown n i) e = refl
 none_of p w given (ended n read kind block vertices s) e = absurd (let z : ◌≡◌ {A = ℕ} 0 1 = cc in omega arith)
 
-pub list_of : (p : Problem) (w : Point) (given : ℕ) (a : PathAnswer) {q n : ℕ} → nearest_in p w given a ≡ Vertex q n
-    → n ≡ length (listed_by p w given a)
+pub list_of : (p : Problem) (w : Point) (given : ℕ) (a : PathAnswer) {v : Vertex} → nearest_in p w given a ≡ Some v
+    → v.listed ≡ length (listed_by p w given a)
 list_of p w given (spent n) e = absurd (let z : ◌≡◌ {A = ℕ} 0 1 = cc in omega arith)
 list_of p w given (unknown n i) e = absurd (let z : ◌≡◌ {A = ℕ} 0 1 = cc in omega arith)
 list_of p w given (ended n read kind block vertices s) e = cc

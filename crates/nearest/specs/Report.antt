@@ -1,6 +1,6 @@
 -- What a run that reports where the path came nearest answers and leaves in its two buffers, on every input. Assumes
 -- nothing.
-use Rattle.std.specs.Prelude.{cond, List, [], ℕ, eqb, length}
+use Rattle.std.specs.Prelude.{cond, List, [], None, Option, ℕ, eqb, length}
 use Rattle.combinatorics.specs.Front.{front}
 use Rattle.questions.specs.Questions.{first_no}
 use Rattle.grid_points.specs.Grid.{Point, position}
@@ -10,8 +10,8 @@ use Rattle.finder.specs.Run.{case_of, numbers_of}
 use Rattle.finder.specs.declared.answers.RunAnswer.TheVariants.{Refused}
 use Rattle.nearest_visited.specs.Nearest.{nearest as nearest_vertex, positions_within}
 use Rattle.nearest_visited.specs.Questions.{near_questions}
-use Rattle.nearest_pass.specs.declared.Nearest.{Nearest}
-use Rattle.nearest_pass.specs.declared.Nearest.TheVariants.{Nothing, Vertex}
+use Rattle.nearest_pass.specs.Survey.{some_vertex}
+use Rattle.nearest_pass.specs.declared.Vertex.{Vertex}
 use Rattle.nearest.specs.declared.Report.{Report}
 
 -- the number of the first of questions 1 to 8 that is answered no, or 0
@@ -20,11 +20,11 @@ near_refusal p w room list_room = first_no (near_questions p w room list_room)
 
 -- "report the table position of the visited vertex nearest to it", with the number of those listed. "A refusal returns
 -- its number and no count": 9 and 16, with which no end is reached, report none
-abbrev pub nearest_in : Problem → Point → ℕ → PathAnswer → Nearest
+abbrev pub nearest_in : Problem → Point → ℕ → PathAnswer → Option Vertex
 nearest_in p w given (ended n read kind block vertices simplex) =
-    Vertex (position p.grid (nearest_vertex p w)) (length (positions_within p w given))
-nearest_in p w given (spent n) = Nothing
-nearest_in p w given (unknown n i) = Nothing
+    some_vertex (position p.grid (nearest_vertex p w)) (length (positions_within p w given))
+nearest_in p w given (spent n) = None
+nearest_in p w given (unknown n i) = None
 
 -- "list all visited vertices within a given distance"
 abbrev pub listed_by : Problem → Point → ℕ → PathAnswer → List ℕ
@@ -42,7 +42,7 @@ report_of p w given room list_room budget =
     let number = near_refusal p w room list_room in
     cond (eqb number 0)
     (reported p w given (answer p budget))
-    (record { run = Refused number; nearest = Nothing })
+    (record { run = Refused number; nearest = None })
 
 -- "A refusal .. changes no buffer. What a call does write stands at the front of its buffer, old contents behind": the
 -- answer buffer, for a list of `list_room` positions; and the list, for an answer buffer of `room` numbers

@@ -18,7 +18,7 @@ use arrays::{block_sizes, padded};
 use finder::{RunAnswer, announce};
 use grid::Grid;
 use nearest_met::weights;
-pub use nearest_pass::Nearest;
+pub use nearest_pass::Vertex;
 use nearest_pass::pass_noting;
 use positions::ENTRIES;
 
@@ -26,7 +26,7 @@ use positions::ENTRIES;
 #[derive(Clone, Copy)]
 pub struct Report {
     pub run: RunAnswer,
-    pub nearest: Nearest,
+    pub nearest: Option<Vertex>,
 }
 
 // Questions 5 to 8, on a grid that is accepted: the number of the first that is answered no, or 0. The start's question
@@ -79,21 +79,39 @@ fn announced(
         let l = listed_by (problem_from g start.now labels.now) w.now given p in
         take (length l) found.new ≡ l }
 {
-    let m = g.indices;
-    let previous = g.previous;
-    let next = g.next;
     let sizes = block_sizes(g);
     let weights = weights(g);
-    let mut first = padded(start, m);
+    let mut first = padded(start, g.indices);
     let mut order = [0u32; 16];
     let passed = pass_noting(
-        g, binomials, labels, &previous, &next, &sizes, &mut first, &mut order, &weights, w, given,
-        found, budget,
+        g,
+        binomials,
+        labels,
+        &g.previous,
+        &g.next,
+        &sizes,
+        &mut first,
+        &mut order,
+        &weights,
+        w,
+        given,
+        found,
+        budget,
     );
-    let nearest = passed.nearest;
-    let finish = passed.finish;
-    let run = announce(g, &previous, &sizes, &first, &order, finish, answer, budget);
-    Report { run, nearest }
+    let run = announce(
+        g,
+        &g.previous,
+        &sizes,
+        &first,
+        &order,
+        passed.finish,
+        answer,
+        budget,
+    );
+    Report {
+        run,
+        nearest: passed.nearest,
+    }
 }
 
 // The first n positions that were found, at the front of the list.
@@ -101,11 +119,7 @@ fn put_list(list: &mut [u16], found: &[u16], n: usize)
     requires { (n ≤ length list.old) × (n ≤ length found.now) }
     ensures { list.new ≡ front (take n found.now) list.old }
 {
-    let mut k: usize = 0;
-    while k < n {
-        list[k] = found[k];
-        k += 1;
-    }
+    list[..n].copy_from_slice(&found[..n]);
 }
 
 // Behind questions 1 to 4: the others, the pass, and after its end the list.
@@ -134,7 +148,7 @@ fn run_on(
     if number != 0 {
         return Report {
             run: RunAnswer::Refused(number),
-            nearest: Nearest::Nothing,
+            nearest: None,
         };
     }
     let mut binomials = [0u16; ENTRIES];
@@ -143,13 +157,8 @@ fn run_on(
     let report = announced(
         g, &binomials, start, labels, answer, budget, w, given, &mut found,
     );
-    let near = report.nearest;
-    if let Nearest::Vertex {
-        position: _,
-        listed,
-    } = near
-    {
-        put_list(list, &found, listed);
+    if let Some(vertex) = report.nearest {
+        put_list(list, &found, vertex.listed);
     }
     report
 }
@@ -184,7 +193,7 @@ pub fn run(
     if code != 0 {
         return Report {
             run: RunAnswer::Refused(code),
-            nearest: Nearest::Nothing,
+            nearest: None,
         };
     }
     run_on(g, start, labels, answer, budget, w, given, list)

@@ -6,22 +6,18 @@ ghost use Rattle.combinatorics.specs.Counting.{apart as apart_of};
 ghost use Rattle.nearest_visited.specs.Distance.{distance, other_divisions};
 ghost use Rattle.nearest_met.specs.Measure.{CanMeasure, HasWeights};
 
-use grid::{Grid, wide16};
+use grid::Grid;
 
 // D / d_j, the product of the other divisions: question 4 has shown that it fits.
 fn others(g: Grid, j: usize) -> usize
     requires { IsMade g × (j < g.blocks) }
     ensures { (result ≡ other_divisions (shape g) j) × (result ≤ 60000) }
 {
-    let blocks = g.blocks;
-    let divisions = g.divisions;
-    let mut product: usize = 1;
-    let mut i: usize = 0;
-    while i < blocks {
+    let mut product = 1;
+    for (i, division) in g.divisions[..g.blocks].iter().enumerate() {
         if i != j {
-            product = product * wide16(divisions[i]);
+            product *= usize::from(*division);
         }
-        i += 1;
     }
     product
 }
@@ -31,12 +27,9 @@ pub fn weights(g: Grid) -> [usize; 16]
     requires { IsMade g }
     ensures { HasWeights (shape g) result }
 {
-    let m = g.indices;
-    let mut a = [0usize; 16];
-    let mut h: usize = 0;
-    while h < m {
+    let mut a = [0; 16];
+    for h in 0..g.indices {
         a[h] = others(g, g.block_of(h));
-        h += 1;
     }
     a
 }
@@ -45,11 +38,7 @@ pub fn weights(g: Grid) -> [usize; 16]
 fn apart(a: u16, b: u16) -> usize
     ensures { (result ≡ apart_of a b) × (result ≤ 65535) }
 {
-    if a < b {
-        wide16(b) - wide16(a)
-    } else {
-        wide16(a) - wide16(b)
-    }
+    usize::from(a.abs_diff(b))
 }
 
 // The distance from w of the point in the first m numbers of y. At most 16 terms add up, so that the sum fits.
@@ -58,11 +47,9 @@ pub fn distance_of(weights: &[usize; 16], w: &[u16], y: &[u16; 16], m: usize) ->
     ensures { (g : Shape) → CanMeasure g weights.now w.now m
         → result ≡ distance g w.now (take m y.now) }
 {
-    let mut total: usize = 0;
-    let mut h: usize = 0;
-    while h < m {
+    let mut total = 0;
+    for h in 0..m {
         total += apart(y[h], w[h]) * weights[h];
-        h += 1;
     }
     total
 }

@@ -31,23 +31,16 @@ pub struct Tally {
     pub listed: usize,
 }
 
-// The position of the point that has come in at a place, if one has.
-#[derive(Clone, Copy)]
-pub enum Came {
-    At(usize),
-    Nothing,
-}
-
 // The position of the point that has come in, whose mark is stored, if one has.
-pub fn came_in(marks: &[u32; 16], s: Status) -> Came
+pub fn came_in(marks: &[u32; 16], s: Status) -> Option<usize>
     requires { (s.active ≤ s.count) × (s.count ≤ 15) }
     ensures { result
         ≡ come_by s.rule (mark_position (at (take (suc s.count) marks.now) s.active)) }
 {
     if s.rule < 6 {
-        return Came::At(position_at(marks, s.count, s.active));
+        return Some(position_at(marks, s.count, s.active));
     }
-    Came::Nothing
+    None
 }
 
 // The distance from w of the point that has come in.
@@ -109,11 +102,7 @@ fn note(
             listed,
         };
     }
-    Tally {
-        nearest: t.nearest,
-        least: t.least,
-        listed,
-    }
+    Tally { listed, ..t }
 }
 
 // The vertex that has come in, if one has, is noted unless it was met before.
@@ -126,7 +115,7 @@ pub fn meet(
     weights: &[usize; 16],
     w: &[u16],
     m: usize,
-    came: Came,
+    came: Option<usize>,
     given: u64,
     seen: &mut [u8; 60000],
     list: &mut [u16],
@@ -141,7 +130,7 @@ pub fn meet(
         (g : Shape) → CanMeasure g weights.now w.now m
         → HasMet given t (distance g w.now (point_come g a)) came seen list result }
 {
-    let Came::At(position) = came else {
+    let Some(position) = came else {
         return t;
     };
     if seen[position] != 0 {

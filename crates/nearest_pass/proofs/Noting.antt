@@ -5,6 +5,7 @@ use mathlib.Core.List.{List, [], ◌∷◌, ◌++◌, append-nil}
 use mathlib.Core.Logic.{⊎_elim}
 use mathlib.Core.Path.{◌≡◌, refl, sym, ap, ◌∙◌, subst}
 use Prim.Native.Nat.{ℕ, suc, ◌-◌, ◌<◌, ◌≤◌}
+use Rattle.std.specs.Prelude.{None, Option, Some}
 use borrow.Author.Tests.{eq-eqb, le-ltb, leb-true, lt-ltb, ne_eqb}
 use lib.Dec.{eqb, leb}
 use lib.ListN.{length, length-map, length-set, length-take, take}
@@ -43,16 +44,14 @@ use Rattle.nearest_visited.specs.Nearest.{nearest, positions_within, vertices_wi
 use Rattle.nearest_visited.specs.Visited.{points_of_places, vertices_of, visited_vertices}
 use Rattle.nearest_met.specs.Meeting.{HasRoomToNote, Kept, come_by, vertex_come, list_after, point_come, seen_after}
 use Rattle.nearest_met.specs.Meeting.{tally_after}
-use Rattle.nearest_met.specs.declared.Came.{Came}
-use Rattle.nearest_met.specs.declared.Came.TheVariants.{At, Nothing}
 use Rattle.nearest_met.specs.declared.Tally.{Tally}
-use Rattle.nearest_pass.specs.declared.Nearest.TheVariants.{Vertex}
+use Rattle.nearest_pass.specs.Survey.{some_vertex}
 use Rattle.nearest_met.proofs.Keeping.{kept_more, low, room_for, seen-new, seen-old}
 
-pub list-long : (given : ℕ) (t : Tally) (away : ℕ) (seen list : List ℕ) (came : Came)
+pub list-long : (given : ℕ) (t : Tally) (away : ℕ) (seen list : List ℕ) (came : Option ℕ)
     → length (list_after given t away seen list came) ≡ length list
-list-long given t away seen list Nothing = refl
-list-long given t away seen list (At q) =
+list-long given t away seen list None = refl
+list-long given t away seen list (Some q) =
     ⊎_elim
     (λ n. rw n (⊎_elim (λ c. rw c (length-set list t.listed q)) (λ c. rw c) (true_or_false (leb away given))))
     (λ n. rw n) (true_or_false (eqb (at seen q) 0))
@@ -137,7 +136,7 @@ module _ (g : GridStruct) (first table : List ℕ) (ok : Accepted (problem_in g 
         → q ≡ position_at (read (table_problem g table) s) (read (table_problem g table) s).active
         → come_by s.rule q ≡ vertex_come (shape g) s
     come-is known q e = ⊎_elim
-        (λ (r : s.rule < 6). rw (lt-ltb s.rule 6 r) (ap At (e ∙ come-position known r)))
+        (λ (r : s.rule < 6). rw (lt-ltb s.rule 6 r) (ap Some (e ∙ come-position known r)))
         (λ (r : 6 ≤ s.rule). rw (le-ltb s.rule 6 r))
         (before_or_not s.rule 6)
 
@@ -228,7 +227,7 @@ module _ (g : GridStruct) (first table : List ℕ) (ok : Accepted (problem_in g 
           (λ (r : 6 ≤ s.rule). rw (vertices-same r, le-ltb s.rule 6 r) K)
           (before_or_not s.rule 6)
 
-      pub kept_met : {came : Came} {r : Tally} {seen' list' : List ℕ} → came ≡ vertex_come (shape g) s
+      pub kept_met : {came : Option ℕ} {r : Tally} {seen' list' : List ℕ} → came ≡ vertex_come (shape g) s
           → r ≡ tally_after given t away seen came → seen' ≡ seen_after seen came
           → list' ≡ list_after given t away seen list came
           → Kept (shape g) w given old (vertices_of (take (suc k) on_path)) seen' list' r
@@ -243,8 +242,8 @@ module _ (g : GridStruct) (first table : List ℕ) (ok : Accepted (problem_in g 
         (λ (x : List Simplex). Kept (shape g) w given old (vertices_of x) seen list t)
         (take_all (suc k) on_path (omega arith)) K
 
-    pub all_met : (Vertex t.nearest t.listed
-        ≡ Vertex (position (shape g) (nearest p w)) (length (positions_within p w given)))
+    pub all_met : (some_vertex t.nearest t.listed
+        ≡ some_vertex (position (shape g) (nearest p w)) (length (positions_within p w given)))
         × (list ≡ front (positions_within p w given) old)
     all_met =
         let near = kept-all.nearest (some-visited ok) in

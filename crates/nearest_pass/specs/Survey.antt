@@ -1,5 +1,5 @@
 -- What the pass that notes vertices asks and gives. The call's own promise does not cite it. Assumes nothing.
-use Rattle.std.specs.Prelude.{true, List, map, ◌≡◌, ℕ, ◌≤◌, leb, length, take}
+use Rattle.std.specs.Prelude.{true, List, None, Option, Some, map, ◌≡◌, ℕ, ◌≤◌, leb, length, take}
 use Rattle.combinatorics.specs.Front.{front}
 use Rattle.combinatorics.specs.Lists.{filter}
 use Rattle.grid_points.specs.Grid.{Point, is_grid_point, num_points, position}
@@ -14,8 +14,7 @@ use Rattle.nearest_met.specs.Measure.{CanMeasure}
 use Rattle.path_pass.specs.declared.Finish.{Finish}
 use Rattle.path_pass.specs.declared.Finish.TheVariants.{Ended, Spent, Unknown as UnknownLabel}
 use Rattle.nearest_met.specs.declared.Tally.{Tally}
-use Rattle.nearest_pass.specs.declared.Nearest.{Nearest}
-use Rattle.nearest_pass.specs.declared.Nearest.TheVariants.{Nothing, Vertex}
+use Rattle.nearest_pass.specs.declared.Vertex.{Vertex}
 
 -- what the pass asks besides what a run's asks
 pub record CanNote (g : GridStruct) (weights w list : List ℕ) : Type 0 where
@@ -27,6 +26,10 @@ pub record CanNote (g : GridStruct) (weights w list : List ℕ) : Type 0 where
 abbrev pub none_met : Tally
 none_met = record { nearest = 0; least = 18446744073709551615; listed = 0 }
 
+-- a vertex is reported, with how many positions are listed
+abbrev pub some_vertex : ℕ → ℕ → Option Vertex
+some_vertex position listed = Some (record { position = position; listed = listed })
+
 -- the positions of the vertices within the given distance, of the first `n` places
 abbrev pub positions_before : Problem → Point → ℕ → ℕ → List ℕ
 positions_before p w given n = map (position p.grid)
@@ -34,10 +37,10 @@ positions_before p w given n = map (position p.grid)
 
 -- and what a pass of at most `budget` places reports and lists: at the path's end the nearest of all visited vertices
 -- and the positions of those within the distance; else nothing, with the positions of those met on the way
-abbrev pub Surveys : Problem → Point → ℕ → ℕ → List ℕ → List ℕ → Nearest → Finish → Type 0
+abbrev pub Surveys : Problem → Point → ℕ → ℕ → List ℕ → List ℕ → Option Vertex → Finish → Type 0
 Surveys p w given budget old new r (Ended kind places h s labels) =
-    (r ≡ Vertex (position p.grid (nearest p w)) (length (positions_within p w given)))
+    (r ≡ some_vertex (position p.grid (nearest p w)) (length (positions_within p w given)))
     × (new ≡ front (positions_within p w given) old)
 Surveys p w given budget old new r (UnknownLabel places place) =
-    (r ≡ Nothing) × (new ≡ front (positions_before p w given places) old)
-Surveys p w given budget old new r Spent = (r ≡ Nothing) × (new ≡ front (positions_before p w given budget) old)
+    (r ≡ None) × (new ≡ front (positions_before p w given places) old)
+Surveys p w given budget old new r Spent = (r ≡ None) × (new ≡ front (positions_before p w given budget) old)

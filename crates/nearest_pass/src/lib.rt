@@ -1,10 +1,10 @@
 // The pass of a run that notes the vertices of its places, each where it comes in for the first time.
 #![tactic(auto)]
 
-ghost use Rattle.std.specs.Prelude.{◌≡◌, ◌≤◌, ◌<◌};
+ghost use Rattle.std.specs.Prelude.{None, ◌≡◌, ◌≤◌, ◌<◌};
 ghost use Rattle.arrays.specs.Rounds.{round_of};
 ghost use Rattle.path_pass.specs.Finish.{CanPass, Finished, ended_of, problem_in};
-ghost use Rattle.nearest_pass.specs.Survey.{CanNote, Surveys, none_met};
+ghost use Rattle.nearest_pass.specs.Survey.{CanNote, Surveys, none_met, some_vertex};
 
 use grid::Grid;
 use moves::Outcome;
@@ -13,18 +13,18 @@ use path_pass::{Finish, Looked, Stand, asked, begun, ended, look_up, on};
 use positions::ENTRIES;
 use ways::make_move;
 
-// The nearest visited vertex, by its position, and how many positions are listed; nothing where the run reached no end.
+// The nearest visited vertex, by its position, and how many positions are listed.
 #[derive(Clone, Copy)]
-pub enum Nearest {
-    Nothing,
-    Vertex { position: usize, listed: usize },
+pub struct Vertex {
+    pub position: usize,
+    pub listed: usize,
 }
 
-// How a pass ended, and what is reported of the vertices that it has met.
+// How a pass ended, and what is reported of the vertices that it has met: nothing where it reached no end.
 #[derive(Clone, Copy)]
 pub struct NotingPass {
     pub finish: Finish,
-    pub nearest: Nearest,
+    pub nearest: Option<Vertex>,
 }
 
 // Nothing is met yet.
@@ -40,11 +40,11 @@ fn none_met() -> Tally
 
 // A pass that reached no end reports no vertex.
 fn unreported(finish: Finish) -> NotingPass
-    ensures { (result.finish ≡ finish) × (result.nearest ≡ Nearest.Nothing) }
+    ensures { (result.finish ≡ finish) × (result.nearest ≡ None) }
 {
     NotingPass {
         finish,
-        nearest: Nearest::Nothing,
+        nearest: None,
     }
 }
 
@@ -52,14 +52,14 @@ fn unreported(finish: Finish) -> NotingPass
 fn reported(at: Stand, outcome: Outcome, budget: u64, t: Tally) -> NotingPass
     requires { (0 < at.left) × (at.left ≤ budget) }
     ensures { (result.finish ≡ ended_of at outcome budget)
-        × (result.nearest ≡ Nearest.Vertex t.nearest t.listed) }
+        × (result.nearest ≡ some_vertex t.nearest t.listed) }
 {
     NotingPass {
         finish: ended(at, outcome, budget),
-        nearest: Nearest::Vertex {
+        nearest: Some(Vertex {
             position: t.nearest,
             listed: t.listed,
-        },
+        }),
     }
 }
 
@@ -95,6 +95,7 @@ pub fn pass_noting(
     let tails = positions::tails(first, g.indices);
     let mut t = none_met();
     let mut at = begun(first, g.indices, budget);
+    // The places left stand in `at`, by which the finish is told: a `for` would count them a second time.
     while 0 < at.left {
         let s = at.status;
         let looked = look_up(
@@ -138,15 +139,10 @@ pub fn pass_noting(
             &mut marks,
             s,
         );
-        if let Outcome::PlaceEnd(_) = outcome {
+        let Outcome::Moved(status) = outcome else {
             return reported(at, outcome, budget, t);
-        }
-        if let Outcome::FacetEnd(_) = outcome {
-            return reported(at, outcome, budget, t);
-        }
-        if let Outcome::Moved(status) = outcome {
-            at = on(at, status);
-        }
+        };
+        at = on(at, status);
     }
     unreported(Finish::Spent)
 }

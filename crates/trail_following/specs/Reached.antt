@@ -1,6 +1,7 @@
 -- Where the records of a trail lead. The reader's own promise does not cite it. Assumes nothing.
 use Rattle.std.specs.Prelude.{List, ◌≡◌, ℕ, drop, length}
 use Rattle.std.proofs.Math.Option.{none, some}
+use Rattle.std.specs.Prelude.{Option, None, Some}
 use Rattle.grid.specs.declared.Grid.{Grid as GridStruct}
 use Rattle.moves.specs.declared.Status.{Status}
 use Rattle.place.specs.LabelsRead.{came_in}
@@ -10,7 +11,6 @@ use Rattle.trail.specs.Trail.{places_from, rebuilt_from}
 use Rattle.trail_steps.specs.Shows.{Shows}
 use Rattle.trail_steps.specs.Reading.{HasRead, problem_by}
 use Rattle.trail_following.specs.declared.Reached.{Reached}
-use Rattle.trail_following.specs.declared.Reached.TheVariants.{At, Nowhere}
 
 -- the place that the records lead to, in a state, and how many of them bring a point in
 pub record Rebuilds (g : GridStruct) (start bytes : List ℕ) (a : Simplex) (number : ℕ) (order : List ℕ) (s : State)
@@ -22,12 +22,12 @@ pub record Rebuilds (g : GridStruct) (start bytes : List ℕ) (a : Simplex) (num
   pub is : rebuilt_from (problem_by g start) number a bytes ≡ some place
   pub brought : came ≡ came_in (places_from (problem_by g start) number a bytes) number
 
-abbrev pub Reaches : GridStruct → List ℕ → List ℕ → Simplex → ℕ → List ℕ → (Status → State) → Reached → Type 0
-Reaches g start bytes a number order s (At status came) =
-    Rebuilds g start bytes a number order (s status) status.count came
-Reaches g start bytes a number order s Nowhere = rebuilt_from (problem_by g start) number a bytes ≡ none
+abbrev pub Reaches : GridStruct → List ℕ → List ℕ → Simplex → ℕ → List ℕ → (Status → State) → Option Reached → Type 0
+Reaches g start bytes a number order s (Some r) =
+    Rebuilds g start bytes a number order (s r.status) r.status.count r.came
+Reaches g start bytes a number order s None = rebuilt_from (problem_by g start) number a bytes ≡ none
 
 -- from whatever place the arrays held
-abbrev pub ReachesFrom : GridStruct → List ℕ → List ℕ → ℕ → State → ℕ → List ℕ → (Status → State) → Reached → Type 0
+abbrev pub ReachesFrom : GridStruct → List ℕ → List ℕ → ℕ → State → ℕ → List ℕ → (Status → State) → Option Reached → Type 0
 ReachesFrom g tails trail from s number order after r = (start : List ℕ) (a : Simplex) → HasRead g start tails a s
     → Reaches g start (drop from trail) a number order after r

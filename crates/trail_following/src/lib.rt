@@ -16,11 +16,11 @@ use trail_records::IndexSets;
 use trail_steps::{arrive, way_on};
 use ways::{gone_by, moved_by};
 
-// Where the records lead: to a place, with the number of them that bring a point in; or nowhere.
+// The place that the records lead to, with the number of them that bring a point in.
 #[derive(Clone, Copy)]
-pub enum Reached {
-    At { status: Status, came: u64 },
-    Nowhere,
+pub struct Reached {
+    pub status: Status,
+    pub came: u64,
 }
 
 // Bit 0 of the byte at a position, which stands in a record's map byte if the record brings a point in.
@@ -28,11 +28,10 @@ fn low_bit(trail: &[u8], at: usize) -> u64
     requires { at < length trail.now }
     ensures { (result ≡ get_or trail.now at 0 % 2) × (result ≤ 1) }
 {
-    let byte = trail[at];
-    (byte % 2) as u64
+    u64::from(trail[at] % 2)
 }
 
-// The place to which the next records lead from the place in the arrays. The number of records left counts down.
+// The place to which the next records lead from the place in the arrays, if they lead to one.
 pub fn follow(
     g: Grid,
     binomials: &[u16; ENTRIES],
@@ -48,7 +47,7 @@ pub fn follow(
     trail: &[u8],
     from: usize,
     number: u64,
-) -> Reached
+) -> Option<Reached>
     requires { let a = held (round_of previous.now next.now sizes.now) first.old coefficients.old order.old
         marks.old begun in
         CanGoOn g binomials.now tails.now order.old marks.old a begun.count
@@ -62,8 +61,7 @@ pub fn follow(
     let mut s = begun;
     let mut at = from;
     let mut came = 0u64;
-    let mut left = number;
-    while 0 < left {
+    for _record in 0..number {
         let way = way_on(trail, at, marks, s, g.indices);
         let gone = gone_by(way, marks, s);
         let before = IndexSets { t: s.t, u: s.u };
@@ -78,37 +76,31 @@ pub fn follow(
             s,
             way,
         );
-        left -= 1;
-        if let Outcome::PlaceEnd(_) = outcome {
-            return Reached::Nowhere;
+        let Outcome::Moved(status) = outcome else {
+            return None;
+        };
+        let bytes = arrive(
+            g,
+            binomials,
+            tails,
+            previous,
+            sizes,
+            first,
+            coefficients,
+            order,
+            marks,
+            before,
+            status,
+            gone,
+            trail,
+            at,
+        );
+        if bytes == 0 {
+            return None;
         }
-        if let Outcome::FacetEnd(_) = outcome {
-            return Reached::Nowhere;
-        }
-        if let Outcome::Moved(status) = outcome {
-            let bytes = arrive(
-                g,
-                binomials,
-                tails,
-                previous,
-                sizes,
-                first,
-                coefficients,
-                order,
-                marks,
-                before,
-                status,
-                gone,
-                trail,
-                at,
-            );
-            if bytes == 0 {
-                return Reached::Nowhere;
-            }
-            s = status;
-            came += low_bit(trail, at);
-            at += bytes;
-        }
+        s = status;
+        came += low_bit(trail, at);
+        at += bytes;
     }
-    Reached::At { status: s, came }
+    Some(Reached { status: s, came })
 }

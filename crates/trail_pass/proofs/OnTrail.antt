@@ -80,8 +80,8 @@ ended-whole p budget {n} {read} {kind} {block} {vertices} {simplex} e =
 module _ (g : GridStruct) (start table : List ℕ) where
   -- what is kept of the place before
   pub record Behind (before : Before) (h : ℕ) : Type 0 where
-    pub T : IsMask before.t (set_t (problem_in g start table) (place_at (path (problem_in g start table)).visited h))
-    pub U : IsMask before.u
+    pub T : IsMask before.sets.t (set_t (problem_in g start table) (place_at (path (problem_in g start table)).visited h))
+    pub U : IsMask before.sets.u
         (set_u (problem_in g start table).grid (place_at (path (problem_in g start table)).visited h))
 
   -- the point that has left it, if there is one
@@ -110,7 +110,7 @@ module _ (g : GridStruct) (start table : List ℕ) where
     pub so_far : SoFar before k from
     pub counted : end ≡ length (trail_of (problem_in g start table)
         (take (suc k) (path (problem_in g start table)).visited))
-    pub kept : a.rule ≡ 1 → 0 < from → SameSets before.t before.u a.T a.U
+    pub kept : a.rule ≡ 1 → 0 < from → SameSets before.sets.t before.sets.u a.T a.U
     pub written : trail ≡ cond writes
         (front (trail_of (problem_in g start table) (take k (path (problem_in g start table)).visited)) old) old
     pub long : length trail ≡ length old
@@ -298,20 +298,20 @@ module _ (g : GridStruct) (start table : List ℕ) (accepted : Accepted (problem
     only l x e = let w = mapped_one (position p.grid) l x e in ap first_of w.1 ∙ w.3
 
     record_bytes : (y z : ℕ)
-        → length (record_from before.t before.u s.T s.U y z)
+        → length (record_from before.sets.t before.sets.u s.T s.U y z)
         ≡ length (record_of p (place_at visited k) (place_at visited (suc k)))
     unfolding change
     record_bytes y z =
         let a = place_at visited k in
         let b = place_at visited (suc k) in
-        length-alike before.t before.u s.T s.U y z (first_of (outside same_point a b))
+        length-alike before.sets.t before.sets.u s.T s.U y z (first_of (outside same_point a b))
         (first_of (outside same_point b a))
         ∙ ap length (told p a b B.T (mask_T s (suc k) here) B.U (mask_U s (suc k) here)
         (only (outside same_point a b)) (only (outside same_point b a))
         ((path_trail ok).by_rule k here.1).1)
 
     pub next-end : (end bytes : ℕ) → end ≡ length (trail_of p (take (suc k) visited))
-        → ((y z : ℕ) → bytes ≡ length (record_from before.t before.u s.T s.U y z))
+        → ((y z : ℕ) → bytes ≡ length (record_from before.sets.t before.sets.u s.T s.U y z))
         → end + bytes ≡ length (trail_of p (take (suc (suc k)) visited))
     next-end end bytes e l = omega (
       arith,
@@ -381,7 +381,7 @@ module _ (g : GridStruct) (start table : List ℕ) (accepted : Accepted (problem
           let w = mapped_one (position p.grid) (outside same_point b a) x q in
           left h e w.0 (rw e w.1) ∙ w.3
 
-      later_record : record_from before.t before.u s.T s.U come before.gone ≡ record_of p a b
+      later_record : record_from before.sets.t before.sets.u s.T s.U come before.gone ≡ record_of p a b
       later_record =
           let B = F.behind h e in
           let by = (path_trail ok).by_rule h (omega (arith, here.1)) in
@@ -395,7 +395,7 @@ module _ (g : GridStruct) (start table : List ℕ) (accepted : Accepted (problem
 
     made-later : (at ≡ 0 → ⊥)
         → record_here (read (table_problem g table) s) before at
-        ≡ record_from before.t before.u s.T s.U come before.gone
+        ≡ record_from before.sets.t before.sets.u s.T s.U come before.gone
     made-later n = rw (ne_eqb at 0 n, same-T s, same-U s, same-active s)
 
     pub here_trail : trail_of p (take k visited) ++ record_here (read (table_problem g table) s) before at
@@ -505,7 +505,7 @@ module _ (g : GridStruct) (start table : List ℕ) (accepted : Accepted (problem
 
       -- which a pass that writes keeps
       pub next-left : (gone : ℕ) → gone ≡ gone-here
-          → Left g start table (record { t = s.T; u = s.U; gone = gone }) (suc k)
+          → Left g start table (record { sets = record { t = s.T; u = s.U }; gone = gone }) (suc k)
       next-left gone z = record {
         left = λ h q. let i : k ≡ h = omega arith in rw (← i) (λ y o. z ∙ gone-is y o);
         low = omega (arith, z, gone-low);
@@ -574,7 +574,7 @@ module _ (g : GridStruct) (start table : List ℕ) (accepted : Accepted (problem
             F.long ∙ ap (λ (n : ℕ). length (trail_of p (take n visited))) e in
             rw (ne_eqb at 0 n, same-T s, same-U s, e)
             (next-end s h on before (F.behind h (sym e)) at _ so
-            (λ y z. length-alike before.t before.u s.T s.U _ before.gone y z))
+            (λ y z. length-alike before.sets.t before.sets.u s.T s.U _ before.gone y z))
 
     pub next-short : at + length rec ≤ length (trail_of p visited)
     next-short = omega (arith, next-long, part_short visited (suc k))
@@ -592,7 +592,7 @@ module _ (g : GridStruct) (start table : List ℕ) (accepted : Accepted (problem
 
     -- and what is kept of it
     pub next_so_far : (gone end : ℕ) → end ≡ length (trail_of p (take (suc k) visited))
-        → SoFar g start table (record { t = s.T; u = s.U; gone = gone }) (suc k) end
+        → SoFar g start table (record { sets = record { t = s.T; u = s.U }; gone = gone }) (suc k) end
     next_so_far gone end e = record {
       long = e;
       behind = λ h q. let i : k ≡ h = omega arith in rw (← i) (record { T = mask_T s k here; U = mask_U s k here });

@@ -11,6 +11,7 @@ use grid::Grid;
 use moves::Outcome;
 use path_pass::{Finish, Looked, Stand, asked, begun, ended, look_up, on};
 use positions::ENTRIES;
+use trail_records::IndexSets;
 use trail_visits::{Before, bytes_to, tell};
 use ways::make_move;
 
@@ -68,13 +69,13 @@ pub fn pass_recording(
     let mut marks = [0u32; 16];
     let tails = positions::tails(first, g.indices);
     let mut before = Before {
-        t: 0,
-        u: 0,
+        sets: IndexSets { t: 0, u: 0 },
         gone: 0,
     };
     let mut from: usize = 0;
     let mut end: usize = 3;
     let mut at = begun(first, g.indices, budget);
+    // The places left stand in `at`, by which the finish is told: a `for` would count them a second time.
     while 0 < at.left {
         let s = at.status;
         let looked = look_up(
@@ -104,22 +105,16 @@ pub fn pass_recording(
             &mut marks,
             s,
         );
-        if let Outcome::PlaceEnd(_) = outcome {
+        let Outcome::Moved(status) = outcome else {
             return recorded(at, outcome, budget, end);
-        }
-        if let Outcome::FacetEnd(_) = outcome {
-            return recorded(at, outcome, budget, end);
-        }
-        if let Outcome::Moved(status) = outcome {
-            before = Before {
-                t: s.t,
-                u: s.u,
-                gone,
-            };
-            from = end;
-            end += bytes_to(s, status);
-            at = on(at, status);
-        }
+        };
+        before = Before {
+            sets: IndexSets { t: s.t, u: s.u },
+            gone,
+        };
+        from = end;
+        end += bytes_to(s, status);
+        at = on(at, status);
     }
     unrecorded(Finish::Spent)
 }

@@ -13,7 +13,7 @@ use grid::Grid;
 use moves::{Status, put_points};
 use path_pass::begin;
 use positions::ENTRIES;
-use trail_following::{Reached, follow};
+use trail_following::follow;
 use trail_records::{first_record, stands};
 
 // What the reader answers: the number of the first of questions 1 to 5 and 17 that is answered no; or how many points
@@ -84,8 +84,7 @@ fn start_position(g: Grid, binomials: &[u16; ENTRIES], first: &[u16; 16]) -> usi
     requires { CanLocate g binomials.now first.now }
     ensures { IsLocated g first.now result }
 {
-    let steps = [16u16; 16];
-    positions::position(g, binomials, first, &steps)
+    positions::position(g, binomials, first, &[16; 16])
 }
 
 // The place at a record, the start being the first point that is lent.
@@ -105,18 +104,17 @@ fn rebuilt(
     requires number_nonzero { 0 < number }
     ensures { Reads g (take g.indices first.old) trail.now number points result }
 {
-    let m = g.indices;
     let mut coefficients = [0u16; 16];
     let mut order = [0u32; 16];
     let mut marks = [0u32; 16];
-    let s = begin(first, m);
-    let tails = positions::tails(first, m);
+    let s = begin(first, g.indices);
+    let tails = positions::tails(first, g.indices);
     let position = start_position(g, binomials, first);
     if !stands(trail, 0, first_record(position)) {
         return refused(17, points);
     }
     marks[0] = position as u32 * 256;
-    let reached = follow(
+    let Some(reached) = follow(
         g,
         binomials,
         &tails,
@@ -131,20 +129,19 @@ fn rebuilt(
         trail,
         3,
         number - 1,
-    );
-    match reached {
-        Reached::At { status, came } => placed(
-            previous,
-            sizes,
-            first,
-            &order,
-            status,
-            m,
-            came + 1,
-            points,
-        ),
-        Reached::Nowhere => refused(17, points),
-    }
+    ) else {
+        return refused(17, points);
+    };
+    placed(
+        previous,
+        sizes,
+        first,
+        &order,
+        reached.status,
+        g.indices,
+        reached.came + 1,
+        points,
+    )
 }
 
 // The reading behind questions 1 to 5.
@@ -155,14 +152,20 @@ fn read_on(g: Grid, start: &[u16], trail: &[u8], number: u64, points: [u16; 256]
     if number == 0 {
         return refused(17, points);
     }
-    let previous = g.previous;
-    let next = g.next;
     let sizes = block_sizes(g);
     let mut binomials = [0u16; ENTRIES];
     positions::binomials(g, &mut binomials);
     let mut first = padded(start, g.indices);
     rebuilt(
-        g, &binomials, &previous, &next, &sizes, &mut first, trail, number, points,
+        g,
+        &binomials,
+        &g.previous,
+        &g.next,
+        &sizes,
+        &mut first,
+        trail,
+        number,
+        points,
     )
 }
 

@@ -3,4 +3,3 @@ pub mod Told
 pub mod Kept
 pub mod Standing
 pub mod Begins
-pub mod Stored

@@ -50,17 +50,12 @@ fn from_one(h: usize) -> u8
 pub fn difference(a: u16, b: u16) -> usize
     ensures { (result ≡ differing a b) × (result ≤ 16) }
 {
-    if a == b {
-        return 16;
-    }
-    let mut h: usize = 0;
-    while h < 16 {
+    for h in 0..16 {
         if has(a, h) != has(b, h) {
-            break;
+            return h;
         }
-        h += 1;
     }
-    h
+    16
 }
 
 // Two sets are the same.
@@ -197,29 +192,12 @@ pub fn first_record(come: usize) -> Record
     }
 }
 
-// The record's bytes, stored from a position of the trail on: each by its number, so that the record needs no array.
+// The record's bytes, stored from a position of the trail on.
 pub fn put(trail: &mut [u8], at: usize, made: Record)
     requires { (at + made.length ≤ length trail.old) × HasLength made.length × (length made.bytes ≡ 8) }
     ensures { trail.new ≡ paste trail.old at made.bytes made.length }
 {
-    let bytes = made.bytes;
-    let n = made.length;
-    trail[at] = bytes[0];
-    trail[at + 1] = bytes[1];
-    trail[at + 2] = bytes[2];
-    if n < 5 {
-        return;
-    }
-    trail[at + 3] = bytes[3];
-    trail[at + 4] = bytes[4];
-    if n < 6 {
-        return;
-    }
-    trail[at + 5] = bytes[5];
-    if n < 7 {
-        return;
-    }
-    trail[at + 6] = bytes[6];
+    trail[at..at + made.length].copy_from_slice(&made.bytes[..made.length]);
 }
 
 // The bytes of the trail from a position on begin with the record's.
@@ -227,18 +205,13 @@ pub fn stands(trail: &[u8], at: usize, made: Record) -> bool
     requires { (at ≤ length trail.now) × (made.length ≤ 8) × (length made.bytes ≡ 8) }
     ensures { result ≡ begins (take made.length made.bytes) (drop at trail.now) }
 {
-    let bytes = made.bytes;
-    let n = made.length;
-    if trail.len() - at < n {
+    if trail.len() - at < made.length {
         return false;
     }
-    let mut k: usize = 0;
-    while k < n {
-        let x = bytes[k];
-        if trail[at + k] != x {
+    for (k, x) in made.bytes[..made.length].iter().enumerate() {
+        if trail[at + k] != *x {
             return false;
         }
-        k += 1;
     }
     true
 }

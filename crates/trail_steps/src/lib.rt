@@ -21,18 +21,12 @@ use positions::ENTRIES;
 use trail_records::{IndexSets, standing_bytes};
 use ways::Way;
 
-fn wide(x: u8) -> usize
-    ensures { (result ≡ x) × (result ≤ 255) }
-{
-    x as usize
-}
-
 // The 16-bit number at a position.
 fn word(trail: &[u8], at: usize) -> usize
     requires { at + 2 ≤ length trail.now }
     ensures { (result ≡ get_or trail.now at 0 + 256 * get_or trail.now (suc at) 0) × (result < 65536) }
 {
-    wide(trail[at]) + 256 * wide(trail[at + 1])
+    usize::from(trail[at]) + 256 * usize::from(trail[at + 1])
 }
 
 // The number of the point with a position, n being the number of steps; n + 1 where no point has it.
@@ -40,14 +34,12 @@ fn point_with(marks: &[u32; 16], n: usize, position: usize) -> usize
     requires { (n ≤ 15) × (length marks.now ≡ 16) }
     ensures { result ≡ found position 16 (map mark_position (take (suc n) marks.now)) }
 {
-    let mut k: usize = 0;
-    while k <= n {
+    for k in 0..n + 1 {
         if position_at(marks, n, k) == position {
-            break;
+            return k;
         }
-        k += 1;
     }
-    k
+    n + 1
 }
 
 // The point with a position leaves, if the place has it and another.
@@ -55,12 +47,9 @@ fn leaving(marks: &[u32; 16], s: Status, position: usize) -> Way
     requires { (s.count ≤ 15) × (length marks.now ≡ 16) }
     ensures { let a = held_marks marks.now s in result ≡ leaving a s.count position }
 {
-    let n = s.count;
-    let i = point_with(marks, n, position);
-    if i <= n {
-        if 0 < n {
-            return Way::Leaves(i);
-        }
+    let i = point_with(marks, s.count, position);
+    if i <= s.count && 0 < s.count {
+        return Way::Leaves(i);
     }
     Way::Nothing
 }
@@ -70,13 +59,7 @@ fn joining(t: u16, m: usize, byte: usize) -> Way
     requires { m ≤ 16 }
     ensures { result ≡ joining t m byte }
 {
-    if byte == 0 {
-        return Way::Nothing;
-    }
-    if m < byte {
-        return Way::Nothing;
-    }
-    if has(t, byte - 1) {
+    if byte == 0 || m < byte || has(t, byte - 1) {
         return Way::Nothing;
     }
     Way::Joins(byte - 1)
@@ -92,7 +75,7 @@ pub fn way_on(trail: &[u8], at: usize, marks: &[u32; 16], s: Status, m: usize) -
     if room == 0 {
         return Way::Nothing;
     }
-    let byte = wide(trail[at]);
+    let byte = usize::from(trail[at]);
     if byte / 2 % 2 == 1 {
         let from = 1 + 2 * (byte % 2);
         if room < from + 2 {
@@ -103,7 +86,7 @@ pub fn way_on(trail: &[u8], at: usize, marks: &[u32; 16], s: Status, m: usize) -
     if room < 4 {
         return Way::Nothing;
     }
-    joining(s.t, m, wide(trail[at + 3]))
+    joining(s.t, m, usize::from(trail[at + 3]))
 }
 
 // The position of the point that has come in; 0 where none has.
@@ -185,8 +168,7 @@ pub fn arrive(
         s,
     );
     if s.rule < 6 {
-        let i = s.active;
-        marks[i] = come as u32 * 256;
+        marks[s.active] = come as u32 * 256;
     }
     let after = IndexSets { t: s.t, u: s.u };
     standing_bytes(trail, at, before, after, come, gone)

@@ -12,7 +12,7 @@ use Rattle.trail_visits.specs.declared.Before.{Before}
 abbrev pub record_here : State → Before → ℕ → List ℕ
 record_here a before at =
     let come = position_at a a.active in
-    cond (eqb at 0) (first_record come) (record_from before.t before.u a.T a.U come before.gone)
+    cond (eqb at 0) (first_record come) (record_from before.sets.t before.sets.u a.T a.U come before.gone)
 
 pub record HasPositions (a : State) (s : Status) (before : Before) : Type 0 where
   pub active : s.active ≤ s.count
@@ -24,7 +24,7 @@ pub record HasPositions (a : State) (s : Status) (before : Before) : Type 0 wher
 pub record CanWrite (a : State) (s : Status) (trail : List ℕ) (at : ℕ) (before : Before) : Type 0 where
   pub positions : HasPositions a s before
   pub room : at + length (record_here a before at) ≤ length trail
-  pub kept : a.rule ≡ 1 → 0 < at → SameSets before.t before.u a.T a.U
+  pub kept : a.rule ≡ 1 → 0 < at → SameSets before.sets.t before.sets.u a.T a.U
 
 -- the trail with the record of a place, where the pass writes
 abbrev pub with_record : State → List ℕ → ℕ → Before → Bool → List ℕ

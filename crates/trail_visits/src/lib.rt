@@ -16,8 +16,7 @@ use ways::{gone_by, way_here};
 // What a record looks at of the place before its own: T and U, and the position of the point that has left.
 #[derive(Clone, Copy)]
 pub struct Before {
-    pub t: u16,
-    pub u: u16,
+    pub sets: IndexSets,
     pub gone: usize,
 }
 
@@ -30,12 +29,8 @@ fn record_here(marks: &[u32; 16], s: Status, before: Before, at: usize) -> Recor
     if at == 0 {
         return first_record(come);
     }
-    let from = IndexSets {
-        t: before.t,
-        u: before.u,
-    };
-    let to = IndexSets { t: s.t, u: s.u };
-    record_of(from, to, come, before.gone)
+    let here = IndexSets { t: s.t, u: s.u };
+    record_of(before.sets, here, come, before.gone)
 }
 
 // The record is stored. Most places are reached by rule 1, and at these it needs no look at T and U.
@@ -43,12 +38,10 @@ fn put_here(marks: &[u32; 16], s: Status, trail: &mut [u8], at: usize, before: B
     requires { let a = held_marks marks.now s in CanWrite a s trail.old at before }
     ensures { let a = held_marks marks.now s in trail.new ≡ with_record a trail.old at before true }
 {
-    if 0 < at {
-        if s.rule == 1 {
-            let come = position_at(marks, s.count, s.active);
-            put(trail, at, kept_record(come, before.gone));
-            return;
-        }
+    if 0 < at && s.rule == 1 {
+        let come = position_at(marks, s.count, s.active);
+        put(trail, at, kept_record(come, before.gone));
+        return;
     }
     put(trail, at, record_here(marks, s, before, at));
 }

@@ -12,7 +12,6 @@ use lib.ListN.{length, get_or, take, length-map, length-take}
 use lib.Seq.{get_or-take}
 use native.Mathlib.Nat.{le_trans, mul-le-mul_left, mul-le-mul_right}
 use native.Mathlib.Omega.{arith}
-use Rattle.arrays.specs.Rounds.{round_of}
 use Rattle.combinatorics.proofs.Basics.{absurd_bool, and_left, and_right, false_of, same_or, true_or_false}
 use Rattle.combinatorics.proofs.Lists.{all_in}
 use Rattle.combinatorics.proofs.Ranges.{length-up_from}
@@ -25,6 +24,7 @@ use Rattle.grid_points.specs.Grid.{Point, at, block_of, is_grid_point, num_indic
 use Rattle.grid.specs.Made.{shape}
 use Rattle.grid.specs.declared.Grid.{Grid as GridStruct}
 use Rattle.moves.specs.Held.{CanStep, state_of}
+use Rattle.moves.specs.declared.Held.{Held}
 use Rattle.path_laws.proofs.Accepted.{accepted_of, accepted-table}
 use Rattle.path_laws.proofs.BlocksOfGrid.{back_below}
 use Rattle.path_laws.proofs.Filled.{fill, filled_table, filled_full, filled-label}
@@ -78,16 +78,16 @@ map_fill [] i l = absurd (omega arith)
 map_fill (x ∷ ls) zero l = refl
 map_fill (x ∷ ls) (suc i) l = map_fill ls i (omega arith)
 
-module _ {g : GridStruct} {w : WalkStruct} {labels first list order marks : List ℕ} {n t u point : ℕ} {unknown : Bool}
-    (S : Standing g w labels first list order marks n t u point unknown) where
+module _ {g : GridStruct} {w : WalkStruct} {labels : List ℕ} {held : Held} {n t u point : ℕ} {unknown : Bool}
+    (S : Standing g w labels held n t u point unknown) where
   abbrev pub p : Problem
   p = table_on g w labels
 
   abbrev pub y : Point
-  y = take g.indices first
+  y = take g.indices held.first
 
   abbrev pub o : List ℕ
-  o = take n order
+  o = take n held.order
 
   abbrev s : Simplex
   s = kept_points (shape g) y o
@@ -99,7 +99,7 @@ module _ {g : GridStruct} {w : WalkStruct} {labels first list order marks : List
   m_is = made-indices g S.made
 
   pub long-o : length o ≡ n
-  long-o = length-take n order ∙ omega (arith, S.order_long, S.few)
+  long-o = length-take n held.order ∙ omega (arith, S.order_long, S.few)
 
   -- the label that is not yet known is that of the spare point
   pub only-unknown : (j : ℕ) → j ≤ n → label p (get_or s j []) ≡ 0 → j ≡ point
@@ -139,26 +139,26 @@ module _ {g : GridStruct} {w : WalkStruct} {labels first list order marks : List
               (at_in on_points [] s j (omega (arith, points-long ok y o S.place, long-o)))))
 
   -- the state of a move
-  module _ {previous next sizes : List ℕ} (N : IsRoundOf g previous next sizes) where
+  module _ {round : Round} (N : IsRoundOf g round) where
     abbrev pub status_as : ℕ → Status
     status_as rule = record { rule = rule; count = n; t = t; u = u; active = point }
 
     abbrev pub state_as : ℕ → State
-    state_as rule = state_of (round_of previous next sizes) first list order marks (status_as rule)
+    state_as rule = state_of round held (status_as rule)
 
     pub lent : (rule : ℕ) → LentPlace p (filled_table p) y o (state_as rule)
     lent rule = record {
-      round = N.round;
+      round = N.0;
       order_is = refl;
       first_long = S.first_long;
-      first_at = λ k l. sym (get_or-take g.indices first k 0 (omega (arith, m_is)));
+      first_at = λ k l. sym (get_or-take g.indices held.first k 0 (omega (arith, m_is)));
       list_long = S.list_long;
       list_at = S.list_at;
       in_t = S.in_t;
       in_u = S.in_u;
-      marks_long = length-take (suc n) marks ∙ omega (arith, S.marks_long, S.few, long-o);
+      marks_long = length-take (suc n) held.marks ∙ omega (arith, S.marks_long, S.few, long-o);
       marked = λ j l. let jl : j ≤ n = omega (arith, long-o) in
-          get_or-take (suc n) marks j 0 (omega arith) ∙ S.marked j jl ∙ filled-mark j jl;
+          get_or-take (suc n) held.marks j 0 (omega arith) ∙ S.marked j jl ∙ filled-mark j jl;
     }
 
     abbrev pub q : Problem
@@ -203,26 +203,22 @@ module _ {g : GridStruct} {w : WalkStruct} {labels first list order marks : List
       abbrev pub a : State
       a = state_as rule
 
-      abbrev pub told_state : State
-      told_state = state_of (round_of previous [] sizes) first [] order [] (status_as rule)
-
       can_try : CanTry a
       can_try = record { short = λ e z. let f = R.fits.moves e z in (f.0, f.1); first_long = S.first_long }
 
-      pub can_move : CanStep order marks a × CanTry a × (g.indices ≤ 16)
+      pub can_move : CanStep a × CanTry a × (g.indices ≤ 16)
       can_move = (
         record {
-          below = N.below;
-          each = record { in_order = S.order_long; in_marks = S.marks_long };
+          below = N.1;
           ready = R.ready;
         },
         can_try,
         omega (arith, m_is, ok.has_start.sixteen_indices),
       )
 
-      can_put : (from : ℕ) → from ≤ n → CanPut told_state g.indices from 256
+      can_put : (from : ℕ) → from ≤ n → CanPut a g.indices from 256
       can_put from l = record {
-        below = N.below.backward;
+        below = N.1.backward;
         first_length = S.first_long;
         points = rw (ap length refl) (ready-point (full ok y o S.place) (describes ok y o S.place a (lent rule))
             (length o) (omega arith));
@@ -235,21 +231,21 @@ module _ {g : GridStruct} {w : WalkStruct} {labels first list order marks : List
           product : (x m : ℕ) → x ≤ 16 → m ≤ 16 → x * m ≤ 256
           product x m a b = le_trans (mul-le-mul_left x b) (mul-le-mul_right 16 a)
 
-      pub can_tell : CanTellEnd g told_state (way_in g.indices (make_move a))
+      pub can_tell : CanTellEnd g a (way_in g.indices (make_move a))
       can_tell = record {
         place = λ h z. go_place (make_move a) refl h z;
         facet = λ h z. go_facet (make_move a) refl h z;
       }
         where
           go_place : (after : After) → make_move a ≡ after → (h : ℕ) → (way_in g.indices after).leads ≡ PlaceEnd h →
-              (h < g.indices) × CanPut told_state g.indices 0 256
+              (h < g.indices) × CanPut a g.indices 0 256
           go_place (goes e) x h z = absurd_bool (cc)
           go_place (ends_at_place d k) x h z = let r : k ≡ h = cc in
               (omega (arith, (R.fits.place d k x).1, m_is, r), can_put 0 (omega arith))
           go_place (ends_at_facet d k) x h z = absurd_bool (cc)
 
           go_facet : (after : After) → make_move a ≡ after → (h : ℕ) → (way_in g.indices after).leads ≡ FacetEnd h →
-              (h < g.indices) × CanPut told_state g.indices 1 256
+              (h < g.indices) × CanPut a g.indices 1 256
           go_facet (goes e) x h z = absurd_bool (cc)
           go_facet (ends_at_place d k) x h z = absurd_bool (cc)
           go_facet (ends_at_facet d k) x h z = let r : k ≡ h = cc in let f = R.fits.facet d k x in
@@ -343,7 +339,7 @@ module _ {g : GridStruct} {w : WalkStruct} {labels first list order marks : List
       long-points : (f : ℕ → Point) (b k : ℕ) → length (map f (up_from b k)) ≡ k
       long-points f b k = length-map (up_from b k) f ∙ length-up_from b k
 
-      moved_told : (e : State) → make_move a ≡ goes e → next_of walk labels ≡ moved (kept_by q e) → told_as g told_state
+      moved_told : (e : State) → make_move a ≡ goes e → next_of walk labels ≡ moved (kept_by q e) → told_as g a
           (way_in g.indices (goes e)) ≡ next_in g w labels
       unfolding next_as front
       moved_told e x z =
@@ -359,22 +355,22 @@ module _ {g : GridStruct} {w : WalkStruct} {labels first list order marks : List
 
       place_told : (d : State) (k : ℕ) → d ≡ a → next_of walk labels ≡ ended place_end (suc (block_of (shape g) k))
           (points_from q d 0)
-          → end_as g told_state place_end k 0 ≡ next_in g w labels
+          → end_as g a place_end k 0 ≡ next_in g w labels
       unfolding next_as front
       place_told d k e z = rw (z, e, m_is, long-points (point_in q a) 0 (suc (length o) - 0))
 
       facet_told : (d : State) (k : ℕ) → d ≡ a → next_of walk labels ≡ ended facet_end (suc (block_of (shape g) k))
           (points_from q d 1)
-          → end_as g told_state facet_end k 1 ≡ next_in g w labels
+          → end_as g a facet_end k 1 ≡ next_in g w labels
       unfolding next_as front
       facet_told d k e z = rw (z, e, m_is, long-points (point_in q a) 1 (suc (length o) - 1))
 
-      pub told_is : next_of walk labels ≡ by_way (way_made q (make_move a) ∷ []) → told_as g told_state
+      pub told_is : next_of walk labels ≡ by_way (way_made q (make_move a) ∷ []) → told_as g a
           (way_in g.indices (make_move a)) ≡ next_in g w labels
       told_is z = go (make_move a) refl z
         where
           go : (after : After) → make_move a ≡ after → next_of walk labels ≡ by_way (way_made q after ∷ [])
-              → told_as g told_state
+              → told_as g a
               (way_in g.indices after) ≡ next_in g w labels
           go (goes e) x z = moved_told e x z
           go (ends_at_place d k) x z = place_told d k (R.fits.place d k x).0 z

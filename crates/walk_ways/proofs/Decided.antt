@@ -36,9 +36,11 @@ use Rattle.walk_ways.specs.Standing.{IsRoundOf, Standing, leads_back}
 use Rattle.walk_places.specs.Walks.{before_of, nowhere, place_of, same_place, walk_on}
 use Rattle.walk_ways.specs.Ways.{way_in}
 use Rattle.walk_places.specs.declared.Walk.{Walk as WalkStruct}
+use Rattle.moves.specs.declared.Held.{Held}
+use Rattle.rules.specs.declared.Round.{Round}
 
-module _ {g : GridStruct} {w : WalkStruct} {labels first list order marks : List ℕ} {n t u point : ℕ} {unknown : Bool}
-    (S : Standing g w labels first list order marks n t u point unknown) where
+module _ {g : GridStruct} {w : WalkStruct} {labels : List ℕ} {held : Held} {n t u point : ℕ} {unknown : Bool}
+    (S : Standing g w labels held n t u point unknown) where
   abbrev s : Simplex
   s = kept_points (shape g) (y S) (o S)
 
@@ -73,14 +75,14 @@ module _ {g : GridStruct} {w : WalkStruct} {labels first list order marks : List
         unknown_v walk labels (ok S) (y S) (o S) S.present S.place S.counted (long-o S ∙ e) (rw f)
         (ap (λ (i : ℕ). label (p S) (get_or s i [])) (sym z) ∙ unknown-label v)
 
-    pub start-on : {previous next sizes : List ℕ} (N : IsRoundOf g previous next sizes) → same_place w.before nowhere
+    pub start-on : {round : Round} (N : IsRoundOf g round) → same_place w.before nowhere
         ≡ true → unknown ≡ false
         → next_of walk labels ≡ by_way (way_made (q S N) (make_move (state_as S N 1)) ∷ [])
     start-on N f v = from_v walk labels (ok S) (y S) (o S) S.present S.place S.counted (known-all v) (long-o S ∙ e)
         (rw f) (state_as S N 1) (lent S N 1) (omega (arith, S.low)) (omega arith)
 
   -- any other place
-  module _ {k : ℕ} (e : n ≡ suc k) {previous next sizes : List ℕ} (N : IsRoundOf g previous next sizes)
+  module _ {k : ℕ} (e : n ≡ suc k) {round : Round} (N : IsRoundOf g round)
       (long : length w.before.order ≡ 16) where
     low : point ≤ suc k
     low = omega (arith, S.low)

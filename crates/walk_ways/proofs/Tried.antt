@@ -4,7 +4,8 @@ use mathlib.Core.Path.{◌≡◌, refl, sym, ap, ◌∙◌}
 use Prim.Native.Nat.{ℕ, zero, suc, ◌+◌, ◌≤◌}
 use lib.ListN.{length, take, length-take}
 use native.Mathlib.Omega.{arith}
-use Rattle.moves.specs.Held.{Holds, state_of}
+use Rattle.moves.specs.Held.{answered, state_of}
+use Rattle.moves.specs.declared.Held.{Held}
 use Rattle.moves.specs.declared.Outcome.{Outcome}
 use Rattle.moves.specs.declared.Outcome.TheVariants.{FacetEnd, Moved, PlaceEnd}
 use Rattle.moves.specs.declared.Status.{Status}
@@ -21,28 +22,28 @@ use Rattle.walk_ways.specs.declared.Move.{Move}
 abbrev made : Leads → Place → Move
 made leads place = record { leads = leads; place = place }
 
-module _ (m : ℕ) {a : State} {round : Round} {first list order marks : List ℕ} {s : Status} {o : Outcome}
-    (H : Holds round first list order marks s o (make_move a)) (C : CanTry a) where
+module _ (m : ℕ) {a : State} {round : Round} {held : Held} {s : Status} {o : Outcome}
+    (H : answered round held s o ≡ make_move a) (long-order : length held.order ≡ 16) (C : CanTry a) where
   module _ {r : Status} (is : o ≡ Moved r) where
-    after : goes (state_of round first list order marks r) ≡ make_move a
-    after = rw is at H.after
+    after : goes (state_of round held r) ≡ make_move a
+    after = rw is at H
 
-    pub few : (r.count ≤ 15) × (length first ≡ 16)
+    pub few : (r.count ≤ 15) × (length held.first ≡ 16)
     few =
-        let w = C.short (state_of round first list order marks r) (sym after) in
-        (omega (arith, w.0, length-take r.count order, H.each.in_order), w.1)
+        let w = C.short (state_of round held r) (sym after) in
+        (omega (arith, w.0, length-take r.count held.order, long-order), w.1)
 
-    long : length (take r.count order) ≡ r.count
-    long = length-take r.count order ∙ omega (arith, few.0, H.each.in_order)
+    long : length (take r.count held.order) ≡ r.count
+    long = length-take r.count held.order ∙ omega (arith, few.0, long-order)
 
-    pub way_moved : made (Onto r.rule) (kept_as m first order r.count)
+    pub way_moved : made (Onto r.rule) (kept_as m held.first held.order r.count)
         ≡ way_in m (make_move a)
     way_moved = rw (← after, long) (ap
         (λ (l : List ℕ). made (Onto r.rule) (kept_with l))
-        (sym (take_again r.count order)))
+        (sym (take_again r.count held.order)))
       where
         kept_with : List ℕ → Place
-        kept_with l = record { first = padded 16 (take m first); order = padded 16 l; count = r.count + 1 }
+        kept_with l = record { first = padded 16 (take m held.first); order = padded 16 l; count = r.count + 1 }
 
         take_again : (n : ℕ) (l : List ℕ) → take n (take n l) ≡ take n l
         take_again zero l = refl
@@ -50,7 +51,7 @@ module _ (m : ℕ) {a : State} {round : Round} {first list order marks : List �
         take_again (suc n) (x ∷ l) = ap (λ (y : List ℕ). x ∷ y) (take_again n l)
 
   pub way_place : {h : ℕ} → o ≡ PlaceEnd h → made (ToPlace h) nowhere ≡ way_in m (make_move a)
-  way_place is = rw (← (rw is at H.after))
+  way_place is = rw (← (rw is at H))
 
   pub way_facet : {h : ℕ} → o ≡ FacetEnd h → made (ToFacet h) nowhere ≡ way_in m (make_move a)
-  way_facet is = rw (← (rw is at H.after))
+  way_facet is = rw (← (rw is at H))

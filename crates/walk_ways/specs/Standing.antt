@@ -11,7 +11,9 @@ use Rattle.place.specs.Questions.{table_questions}
 use Rattle.questions.specs.Questions.{first_no}
 use Rattle.rules.specs.Mask.{bit}
 use Rattle.rules.specs.Read.{mark_of}
+use Rattle.moves.specs.declared.Held.{Held}
 use Rattle.rules.specs.Ready.{IsRound, RoundBelow}
+use Rattle.rules.specs.declared.Round.{Round}
 use Rattle.walks.specs.Kept.{kept_points, zero_outside}
 use Rattle.walks.specs.Next.{next_of}
 use Rattle.walk_ways.specs.Counted.{Counted}
@@ -41,33 +43,33 @@ is_onto (FacetEnd h) = false
 abbrev pub leads_back : Move → Place → Bool
 leads_back way before = is_onto way.leads && same_place way.place before
 
-pub record IsRoundOf (g : GridStruct) (previous next sizes : List ℕ) : Type 0 where
-  pub round : IsRound (shape g) (record { previous = previous; next = next; sizes = sizes })
-  pub below : RoundBelow (record { previous = previous; next = next; sizes = sizes })
+-- the ways round the blocks are those of the grid
+abbrev pub IsRoundOf : GridStruct → Round → Type 0
+IsRoundOf g round = IsRound (shape g) round × RoundBelow round
 
 -- The walk passes questions 1 to 7, its counts are in range, it carries its place's labels, and its present place is
--- one. T and U are masks, `list` has the first point's coefficients, and `marks` the marks of the points, with index 1
--- for the label that is not yet known, if any: that of the spare point.
-pub record Standing (g : GridStruct) (w : WalkStruct) (labels first list order marks : List ℕ) (n t u point : ℕ)
+-- one. T and U are masks, and the marks held have index 1 for the label that is not yet known, if any: that of the spare
+-- point.
+pub record Standing (g : GridStruct) (w : WalkStruct) (labels : List ℕ) (held : Held) (n t u point : ℕ)
     (unknown : Bool) : Type 0 where
   pub made : IsMade g
   pub asked : first_no (table_questions (table_on g w labels)) ≡ 0
   pub few : n ≤ 15
-  pub first_long : length first ≡ 16
-  pub list_long : length list ≡ 16
-  pub order_long : length order ≡ 16
-  pub marks_long : length marks ≡ 16
-  pub present : place_of (shape g) w.present ≡ points_kept g first order n
-  pub place : is_place (table_on g w labels) (points_kept g first order n) ≡ true
-  pub in_t : (k : ℕ) → k < 16 → bit t k ≡ is_in eqb k (take n order)
-  pub in_u : (k : ℕ) → k < 16 → bit u k ≡ is_in eqb k (zero_outside (shape g) (take n order) (take g.indices first))
-  pub list_at : (k : ℕ) → k < num_indices (shape g) → at list k ≡ at
-      (coefficients (table_on g w labels) (take g.indices first)) k
+  pub first_long : length held.first ≡ 16
+  pub list_long : length held.coefficients ≡ 16
+  pub order_long : length held.order ≡ 16
+  pub marks_long : length held.marks ≡ 16
+  pub present : place_of (shape g) w.present ≡ points_kept g held.first held.order n
+  pub place : is_place (table_on g w labels) (points_kept g held.first held.order n) ≡ true
+  pub in_t : (k : ℕ) → k < 16 → bit t k ≡ is_in eqb k (take n held.order)
+  pub in_u : (k : ℕ) → k < 16 → bit u k ≡ is_in eqb k (zero_outside (shape g) (take n held.order) (take g.indices held.first))
+  pub list_at : (k : ℕ) → k < num_indices (shape g) → at held.coefficients k ≡ at
+      (coefficients (table_on g w labels) (take g.indices held.first)) k
   pub low : point ≤ n
-  pub spare : Spare (table_on g w labels) (points_kept g first order n) (take n order) point
-  pub unknown_is : unknown ≡ eqb (label (table_on g w labels) (get_or (points_kept g first order n) point [])) 0
+  pub spare : Spare (table_on g w labels) (points_kept g held.first held.order n) (take n held.order) point
+  pub unknown_is : unknown ≡ eqb (label (table_on g w labels) (get_or (points_kept g held.first held.order n) point [])) 0
   pub marked : (j : ℕ) → j ≤ n
-      → at marks j ≡ mark_of (table_on g w labels) (get_or (points_kept g first order n) j []) + cond
+      → at held.marks j ≡ mark_of (table_on g w labels) (get_or (points_kept g held.first held.order n) j []) + cond
       (unknown && eqb j point)
       1 0
   pub counted : Counted (walk_on (shape g) w) labels

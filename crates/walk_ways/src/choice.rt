@@ -6,7 +6,8 @@ use crate::ending::{refused, told};
 use crate::one_way::way;
 use crate::{Leads, Move, Next};
 use grid::Grid;
-use moves::Status;
+use moves::{Held, Status};
+use rules::Round;
 use walk_places::{Place, Walk, none, same_place};
 
 // Whether a way leads to the place before.
@@ -26,21 +27,16 @@ fn leads_back(way: Move, before: Place) -> bool
 // From {v}, which has none before it: its label joins T.
 pub fn from_start(
     g: Grid,
-    previous: &[u8; 16],
-    next: &[u8; 16],
-    sizes: &[u8; 16],
-    first: &[u16; 16],
-    list: &[u16; 16],
-    order: &[u32; 16],
-    marks: &[u32; 16],
+    round: &Round,
+    held: &Held,
     labels: &[u8],
     w: Walk,
     t: u16,
     u: u16,
     unknown: bool,
 ) -> Next
-    requires standing { Standing g w labels.now first.now list.now order.now marks.now 0 t u 0 unknown }
-    requires round_of { IsRoundOf g previous.now next.now sizes.now }
+    requires standing { Standing g w labels.now held.now 0 t u 0 unknown }
+    requires round_of { IsRoundOf g round.now }
     ensures { result ≡ next_in g w labels.now }
 {
     let before = w.before;
@@ -58,23 +54,16 @@ pub fn from_start(
         u,
         active: 0,
     };
-    let on = way(
-        previous, next, sizes, first, list, order, marks, g.indices, s,
-    );
-    told(g, previous, sizes, first, order, s, on)
+    let on = way(round, held, g.indices, s);
+    told(g, round, held, s, on)
 }
 
 // From any other place: the point leaves, or its label joins T or the other point with that label leaves. One of the
 // two must lead back.
 pub fn from_other(
     g: Grid,
-    previous: &[u8; 16],
-    next: &[u8; 16],
-    sizes: &[u8; 16],
-    first: &[u16; 16],
-    list: &[u16; 16],
-    order: &[u32; 16],
-    marks: &[u32; 16],
+    round: &Round,
+    held: &Held,
     labels: &[u8],
     w: Walk,
     n: usize,
@@ -83,9 +72,8 @@ pub fn from_other(
     point: usize,
     unknown: bool,
 ) -> Next
-    requires standing { Standing g w labels.now first.now list.now order.now marks.now n t u point unknown
-        × (1 ≤ n) }
-    requires round_of { IsRoundOf g previous.now next.now sizes.now }
+    requires standing { Standing g w labels.now held.now n t u point unknown × (1 ≤ n) }
+    requires round_of { IsRoundOf g round.now }
     ensures { result ≡ next_in g w labels.now }
 {
     let before = w.before;
@@ -104,20 +92,20 @@ pub fn from_other(
         u,
         active: point,
     };
-    let a = way(previous, next, sizes, first, list, order, marks, m, leaving);
+    let a = way(round, held, m, leaving);
     if leads_back(a, before) {
         if unknown {
             return refused(16);
         }
-        let on = way(previous, next, sizes, first, list, order, marks, m, staying);
-        return told(g, previous, sizes, first, order, staying, on);
+        let on = way(round, held, m, staying);
+        return told(g, round, held, staying, on);
     }
     if unknown {
         return refused(20);
     }
-    let b = way(previous, next, sizes, first, list, order, marks, m, staying);
+    let b = way(round, held, m, staying);
     if leads_back(b, before) {
-        return told(g, previous, sizes, first, order, leaving, a);
+        return told(g, round, held, leaving, a);
     }
     refused(20)
 }

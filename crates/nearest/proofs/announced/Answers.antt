@@ -17,14 +17,15 @@ use Rattle.path_pass.proofs.Visits.{is-round, round-below}
 use Rattle.place.specs.Problem.{Problem}
 use Rattle.rules.specs.declared.Round.{Round}
 use Rattle.nearest_pass.specs.Survey.{Surveys}
-use Rattle.nearest_pass.specs.declared.Nearest.{Nearest}
+use Rattle.nearest_pass.specs.declared.Vertex.{Vertex}
+use Rattle.std.specs.Prelude.{Option}
 use Rattle.nearest.specs.declared.Report.{Report}
 use Rattle.nearest.proofs.Finishes.{finish_listed, finish_nearest}
 use Rattle.nearest.proofs.announced.Goals as goal
 use Rattle.nearest.proofs.announced.Goals.{After-pass_noting-passed}
 
 -- reports that agree
-same_report : {run run' : RunAnswer} {near near' : Nearest} → run ≡ run' → near ≡ near'
+same_report : {run run' : RunAnswer} {near near' : Option Vertex} → run ≡ run' → near ≡ near'
     → ◌≡◌ {A = Report} (record { run = run; nearest = near }) (record { run = run'; nearest = near' })
 same_report e f = cc
 

@@ -16,7 +16,8 @@ use Rattle.place.specs.Problem.{Problem}
 use Rattle.path_laws.specs.Demand.{Accepted}
 use Rattle.nearest.proofs.Refusals.{all_yes, answered, by_point, list_of, listed-few, none_of, refused}
 use Rattle.nearest.specs.Report.{near_answer_buffer, list_buffer, listed_by, nearest_in, report_of}
-use Rattle.nearest_pass.specs.declared.Nearest.TheVariants.{Vertex}
+use Rattle.nearest_pass.specs.declared.Vertex.{Vertex}
+use Rattle.std.specs.Prelude.{Some}
 use Rattle.nearest.specs.declared.Report.{Report}
 use Rattle.questions.specs.Questions.{first_no}
 use Rattle.nearest_visited.specs.Questions.{point_questions}
@@ -95,10 +96,10 @@ nearest-is : (c : After-announced-report)
 nearest-is c = ap (λ (r : Report). r.nearest) (sym c.announced-report.ensures.value)
 
 -- as many positions are listed as were found
-listed : (c : After-announced-report) {q n : ℕ} → c.announced-report.result.nearest ≡ Vertex q n
+listed : (c : After-announced-report) {v : Vertex} → c.announced-report.result.nearest ≡ Some v
     → let a = c.args in
     let p = problem (goal.at.After-announced-report c).After-found-1 in
-    n ≡ length (listed_by p a.w.now a.given (answer p a.budget))
+    v.listed ≡ length (listed_by p a.w.now a.given (answer p a.budget))
 listed c e =
     let a = c.args in
     let p = problem (goal.at.After-announced-report c).After-found-1 in
@@ -109,15 +110,15 @@ put_list-requires c =
     let a = c.args in
     let p = problem (goal.at.put_list-requires c).After-found-1 in
     let y = yes (goal.at.put_list-requires c).After-found-1 in
-    let n = listed (goal.at.put_list-requires c).After-announced-report c.in-Vertex.is in
+    let n = listed (goal.at.put_list-requires c).After-announced-report c.in-Some.is in
     let few = listed-few y.1 a.w.now y.0 a.given (answer p a.budget) in
     (omega (arith, n, few, y.2), omega (arith, n, few, y.1.points))
 
-pub returns-in-Vertex : goal.returns-in-Vertex
-returns-in-Vertex c =
+pub returns-in-Some : goal.returns-in-Some
+returns-in-Some c =
     let a = c.args in
-    let G = given (goal.at.returns-in-Vertex c).After-announced-report in
-    let n = listed (goal.at.returns-in-Vertex c).After-announced-report c.in-Vertex.is in record {
+    let G = given (goal.at.returns-in-Some c).After-announced-report in
+    let n = listed (goal.at.returns-in-Some c).After-announced-report c.in-Some.is in record {
       report = G.0;
       answer = c.announced-report.ensures.answer_after ∙ G.1;
       list = c.put_list.ensures

@@ -13,21 +13,21 @@ use Rattle.path_pass.proofs.Visits.{spends}
 use Rattle.path_pass.proofs.Passing.{MovesTo, Place, asks, can_look, facet-ends, has_looked, labels-fit}
 use Rattle.path_pass.proofs.Passing.{onward}
 use Rattle.path_pass.proofs.Passing.{further, passes-first, passes_on, place-ends, rounds, spent, stands}
-use Rattle.path_pass.specs.Finish.{problem_in}
+use Rattle.path_pass.specs.Finish.{Finished, ended_of, problem_in}
 use Rattle.grid.proofs.Fields.{indices-few}
 use Rattle.grid_points.specs.Grid.{at as grid_at, position}
 use Rattle.grid.specs.Made.{shape}
 use Rattle.marks.specs.Reading.{table_problem}
 use Rattle.moves.specs.Held.{answered}
 use Rattle.moves.specs.declared.Outcome.{Outcome}
+use Rattle.moves.specs.declared.Outcome.TheVariants.{FacetEnd, Moved, PlaceEnd}
+use Rattle.moves.specs.declared.Status.{Status}
 use Rattle.place.specs.Path.{path as path_of, path_length}
 use Rattle.rules.specs.Read.{position_at}
 use Rattle.rules.specs.Moves.{State, mark_position, make_move}
 use Rattle.nearest_met.proofs.Keeping.{kept-none}
 use Rattle.nearest_pass.proofs.Noting.{all_met, come-is, computed, kept_met, last-facet, last-place, room_next}
-use Rattle.nearest_pass.specs.Survey.{positions_before}
-use Rattle.nearest_pass.specs.declared.Nearest.{Nearest}
-use Rattle.nearest_pass.specs.declared.Nearest.TheVariants.{Vertex}
+use Rattle.nearest_pass.specs.Survey.{Surveys, positions_before, some_vertex}
 use Rattle.nearest_met.specs.declared.Tally.{Tally}
 use Rattle.nearest_visited.specs.Nearest.{nearest, positions_within}
 use Rattle.nearest_met.specs.Meeting.{Kept, vertex_come}
@@ -213,8 +213,8 @@ tally c = c.meet-t.result
 surveyed : (c : After-make_move-outcome) → path_length (problem_in (here c).g (here c).start (here c).table) ≡ suc (spent (here c))
     → let a = c.args in
     let p = problem_in (here c).g (here c).start (here c).table in
-    (◌≡◌ {A = Nearest} (Vertex (tally c).nearest (tally c).listed)
-    (Vertex (position p.grid (nearest p a.w.now)) (length (positions_within p a.w.now a.given))))
+    (some_vertex (tally c).nearest (tally c).listed
+    ≡ some_vertex (position p.grid (nearest p a.w.now)) (length (positions_within p a.w.now a.given)))
     × (list_then c ≡ front (positions_within p a.w.now a.given) a.list.now)
 surveyed c whole =
     let P = here c in
@@ -224,45 +224,50 @@ surveyed c whole =
 pub reported-requires : goal.reported-requires
 reported-requires c = let P = here (goal.at.reported-requires c).After-make_move-outcome in (P.more, P.passing.low)
 
-pub shape_of-list-in-PlaceEnd : goal.shape_of-list-in-PlaceEnd
-shape_of-list-in-PlaceEnd c = list-stays (goal.at.shape_of-list-in-PlaceEnd c).After-make_move-outcome
+pub shape_of-list-in_default-outcome : goal.shape_of-list-in_default-outcome
+shape_of-list-in_default-outcome c = list-stays (goal.at.shape_of-list-in_default-outcome c).After-make_move-outcome
 
-pub returns-in-PlaceEnd : goal.returns-in-PlaceEnd
-returns-in-PlaceEnd c =
-    let P = here (goal.at.returns-in-PlaceEnd c).After-make_move-outcome in
-    let M = steps (goal.at.returns-in-PlaceEnd c).After-make_move-outcome _ c.in-PlaceEnd.is in
-    let S = surveyed (goal.at.returns-in-PlaceEnd c).After-make_move-outcome
-    (last-place P.g P.start P.table P.ok (spent P) _ _ P.passing.here.1 (onward P M)) in
-    rw (c.reported.ensures.0, c.in-PlaceEnd.is) record { finished = place-ends P M; surveys = (c.reported.ensures.1 ∙ S.0, S.1) }
+-- the path has ended at the last place
+ended : (c : After-make_move-outcome) (o : Outcome) → ((s : Status) → o ≡ Moved s → ⊥) → Goes c o
+    → let P = here c in
+    let a = c.args in
+    let n = c.make_move-outcome.new in
+    let p = problem_in P.g P.start P.table in
+    let finish = ended_of P.stand o a.budget in
+    Finished p a.budget (rounds P) n.first n.order finish
+    × Surveys p a.w.now a.given a.budget a.list.now (list_then c) (some_vertex (tally c).nearest (tally c).listed) finish
+ended c (PlaceEnd k) n M =
+    let P = here c in (
+      place-ends P M,
+      surveyed c (last-place P.g P.start P.table P.ok (spent P) _ _ P.passing.here.1 (onward P M)),
+    )
+ended c (FacetEnd k) n M =
+    let P = here c in (
+      facet-ends P M,
+      surveyed c (last-facet P.g P.start P.table P.ok (spent P) _ _ P.passing.here.1 (onward P M)),
+    )
+ended c (Moved s) n M = absurd (n s refl)
 
-pub reported-requires-in-FacetEnd : goal.reported-requires-in-FacetEnd
-reported-requires-in-FacetEnd c = let P = here (goal.at.reported-requires-in-FacetEnd c).After-make_move-outcome in (P.more, P.passing.low)
-
-pub shape_of-list-in-FacetEnd : goal.shape_of-list-in-FacetEnd
-shape_of-list-in-FacetEnd c = list-stays (goal.at.shape_of-list-in-FacetEnd c).After-make_move-outcome
-
-pub returns-in-FacetEnd : goal.returns-in-FacetEnd
-returns-in-FacetEnd c =
-    let P = here (goal.at.returns-in-FacetEnd c).After-make_move-outcome in
-    let M = steps (goal.at.returns-in-FacetEnd c).After-make_move-outcome _ c.in-FacetEnd.is in
-    let S = surveyed (goal.at.returns-in-FacetEnd c).After-make_move-outcome
-    (last-facet P.g P.start P.table P.ok (spent P) _ _ P.passing.here.1 (onward P M)) in
-    rw (c.reported-in-FacetEnd.ensures.0, c.in-FacetEnd.is) record { finished = facet-ends P M; surveys = (c.reported-in-FacetEnd.ensures.1 ∙ S.0, S.1) }
+pub returns-in_default-outcome : goal.returns-in_default-outcome
+returns-in_default-outcome c =
+    let m = (goal.at.returns-in_default-outcome c).After-make_move-outcome in
+    let E = ended m _ c.in_default-outcome.not-Moved (steps m _ refl) in
+    rw (c.reported.ensures.0, c.reported.ensures.1) record { finished = E.0; surveys = E.1 }
 
 pub on-at-requires : goal.on-at-requires
 on-at-requires c =
     ((here (goal.at.on-at-requires c).After-make_move-outcome).more, labels-fit (here (goal.at.on-at-requires c).After-make_move-outcome) (steps (goal.at.on-at-requires c).After-make_move-outcome _ c.in-Moved.is))
 
-pub loop-at-smaller-in-Moved : goal.loop-at-smaller-in-Moved
-loop-at-smaller-in-Moved c =
-    rw c.on-at.ensures (omega (arith, (here (goal.at.loop-at-smaller-in-Moved c).After-make_move-outcome).more))
+pub loop-at-smaller : goal.loop-at-smaller
+loop-at-smaller c =
+    rw c.on-at.ensures (omega (arith, (here (goal.at.loop-at-smaller c).After-make_move-outcome).more))
 
-pub loop-at-preserved-in-Moved : goal.loop-at-preserved-in-Moved
-loop-at-preserved-in-Moved c = (
-  passes_on (here (goal.at.loop-at-preserved-in-Moved c).After-make_move-outcome) (steps (goal.at.loop-at-preserved-in-Moved c).After-make_move-outcome _ c.in-Moved.is) c.on-at.ensures,
+pub loop-at-preserved : goal.loop-at-preserved
+loop-at-preserved c = (
+  passes_on (here (goal.at.loop-at-preserved c).After-make_move-outcome) (steps (goal.at.loop-at-preserved c).After-make_move-outcome _ c.in-Moved.is) c.on-at.ensures,
   c.make_move-outcome.ensures.each,
-  rw (c.on-at.ensures, further (here (goal.at.loop-at-preserved-in-Moved c).After-make_move-outcome)) (met (goal.at.loop-at-preserved-in-Moved c).After-make_move-outcome),
-  list-stays (goal.at.loop-at-preserved-in-Moved c).After-make_move-outcome,
+  rw (c.on-at.ensures, further (here (goal.at.loop-at-preserved c).After-make_move-outcome)) (met (goal.at.loop-at-preserved c).After-make_move-outcome),
+  list-stays (goal.at.loop-at-preserved c).After-make_move-outcome,
 )
 
 pub shape_of-list : goal.shape_of-list

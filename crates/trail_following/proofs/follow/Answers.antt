@@ -1,5 +1,5 @@
 -- `trail_following::follow` meets its contract. The loop's invariant: the arrays hold a place, from which the records
--- that are left lead where all lead from the first. The measure: the records left. Assumes nothing.
+-- that are left lead where all lead from the first. Assumes nothing.
 use mathlib.Core.List.{List, [], ◌∷◌}
 use mathlib.Core.Option.{none}
 use mathlib.Core.Path.{◌≡◌, refl, sym, ap, ◌∙◌, subst}
@@ -13,12 +13,11 @@ use Rattle.grid_points.specs.Grid.{num_indices}
 use Rattle.grid.specs.Made.{shape}
 use Rattle.moves.specs.Held.{answered, state_of}
 use Rattle.moves.specs.declared.Outcome.{Outcome}
-use Rattle.moves.specs.declared.Outcome.TheVariants.{Moved}
+use Rattle.moves.specs.declared.Outcome.TheVariants.{FacetEnd, Moved, PlaceEnd}
 use Rattle.moves.specs.declared.Status.{Status}
 use Rattle.place.specs.Places.{Simplex}
 use Rattle.trail_records.proofs.Standing.{not_standing, standing}
-use Rattle.rules.specs.Moves.{After, State}
-use Rattle.rules.specs.declared.Round.{Round}
+use Rattle.rules.specs.Moves.{After, Round, State, goes}
 use Rattle.trail.specs.Change.{change}
 use Rattle.trail.specs.Trail.{rebuilt_from}
 use Rattle.trail_steps.proofs.Reached.{Arrives}
@@ -31,107 +30,104 @@ use Rattle.trail_following.proofs.Led.{led_all, led_few, led_none, led_on}
 use Rattle.ways.proofs.Here.{same-gone}
 use Rattle.ways.specs.Ways.{way_after}
 use Rattle.trail_following.proofs.follow.Goals as goal
-use Rattle.trail_following.proofs.follow.Goals.{After-arrive-bytes, After-moved_by-outcome, After-way_on-way, At-loop-left, In-Moved}
+use Rattle.trail_following.proofs.follow.Goals.{After-arrive-bytes, After-moved_by-outcome, After-way_on-way, At-loop-record, In-Moved}
 
-pub loop-left-init : goal.loop-left-init
-loop-left-init c =
-    let number = c.args.number in
-    let z : number - number ≡ 0 = omega arith in (
-      c.requires.each,
-      c.requires.many,
-      c.requires.low,
-      (λ start a H. (a, H, rw z (led_none (problem_by c.args.g start) a _ number))),
-      omega arith,
-      omega arith,
-    )
+pub loop-record-init : goal.loop-record-init
+loop-record-init c = (
+  c.requires.each,
+  c.requires.many,
+  c.requires.low,
+  (λ start a H. (a, H, led_none (problem_by c.args.g start) a _ c.args.number)),
+  omega arith,
+)
 
 -- at a place: the ways round the blocks, the bytes from here on, and the state
-abbrev round : At-loop-left → Round
+abbrev round : At-loop-record → Round
 round c =
     let a = c.args in
     round_of a.previous.now a.next.now a.sizes.now
 
-abbrev bytes_on : At-loop-left → List ℕ
-bytes_on c = drop c.loop-left.at c.args.trail.now
+abbrev bytes_on : At-loop-record → List ℕ
+bytes_on c = drop c.loop-record.at c.args.trail.now
 
-abbrev state : At-loop-left → State
+abbrev state : At-loop-record → State
 state c =
-    let l = c.loop-left in
+    let l = c.loop-record in
     state_of (round c) l.first l.coefficients l.order l.marks l.s
 
 -- a reading of the place, by some start
-abbrev Holds : At-loop-left → List ℕ → Simplex → Type 0
+abbrev Holds : At-loop-record → List ℕ → Simplex → Type 0
 Holds c start a = HasRead c.args.g start c.args.tails.now a (state c)
 
-some : (c : At-loop-left) → (start : List ℕ) × (a : Simplex) × Holds c start a
+some : (c : At-loop-record) → (start : List ℕ) × (a : Simplex) × Holds c start a
 some c =
     let w = c.requires.place in
-    let v = c.loop-left.invariant.3 w.0 w.1 w.2 in
+    let v = c.loop-record.invariant.3 w.0 w.1 w.2 in
     (w.0, v.0, v.1)
 
-few : (c : At-loop-left) → c.loop-left.s.count ≤ 15
+few : (c : At-loop-record) → c.loop-record.s.count ≤ 15
 few c =
     let H = (some c).2 in
-    omega (arith, c.loop-left.invariant.1, H.shows.order_length, shows-few H.has_start H.shows)
+    omega (arith, c.loop-record.invariant.1, H.shows.order_length, shows-few H.has_start H.shows)
 
 pub way_on-way-requires : goal.way_on-way-requires
-way_on-way-requires c = record { count_bound = (few (goal.at.way_on-way-requires c).At-loop-left, c.loop-left.invariant.0.in_marks); at_in_bounds = (c.loop-left.invariant.2, indices-few c.args.g c.requires.measured.made) }
+way_on-way-requires c = record { count_bound = (few (goal.at.way_on-way-requires c).At-loop-record, c.loop-record.invariant.0.in_marks); at_in_bounds = (c.loop-record.invariant.2, indices-few c.args.g c.requires.measured.made) }
 
 way-is : (c : After-way_on-way)
-    → way_of (num_indices (shape c.args.g)) c.loop-left.s.count
-    (state (goal.at.After-way_on-way c).At-loop-left) (bytes_on (goal.at.After-way_on-way c).At-loop-left) ≡ c.way_on-way.result
+    → way_of (num_indices (shape c.args.g)) c.loop-record.s.count
+    (state (goal.at.After-way_on-way c).At-loop-record) (bytes_on (goal.at.After-way_on-way c).At-loop-record) ≡ c.way_on-way.result
 way-is c =
-    let l = c.loop-left in
+    let l = c.loop-record in
     let a = c.args in
     sym
     (c.way_on-way.ensures
-    ∙ same_way a.g.indices l.s.count (round (goal.at.After-way_on-way c).At-loop-left) l.first l.coefficients l.order l.marks
-    l.s (bytes_on (goal.at.After-way_on-way c).At-loop-left)
+    ∙ same_way a.g.indices l.s.count (round (goal.at.After-way_on-way c).At-loop-record) l.first l.coefficients l.order l.marks
+    l.s (bytes_on (goal.at.After-way_on-way c).At-loop-record)
     ∙ ap
-    (λ (m : ℕ). way_of m l.s.count (state (goal.at.After-way_on-way c).At-loop-left) (bytes_on (goal.at.After-way_on-way c).At-loop-left))
+    (λ (m : ℕ). way_of m l.s.count (state (goal.at.After-way_on-way c).At-loop-record) (bytes_on (goal.at.After-way_on-way c).At-loop-record))
     (made-indices a.g c.requires.measured.made))
 
-counted : (c : At-loop-left) {start : List ℕ} {a : Simplex} (H : Holds c start a)
-    → c.loop-left.s.count ≡ H.shows.t
-counted c H = sym c.loop-left.invariant.1 ∙ H.shows.order_length
+counted : (c : At-loop-record) {start : List ℕ} {a : Simplex} (H : Holds c start a)
+    → c.loop-record.s.count ≡ H.shows.t
+counted c H = sym c.loop-record.invariant.1 ∙ H.shows.order_length
 
 pub gone_by-gone-requires : goal.gone_by-gone-requires
 gone_by-gone-requires c = (
-  few (goal.at.gone_by-gone-requires c).At-loop-left,
-  λ i e. ((way_fits (num_indices (shape c.args.g)) c.loop-left.s.count (state (goal.at.gone_by-gone-requires c).At-loop-left)
-      (bytes_on (goal.at.gone_by-gone-requires c).At-loop-left)).leaves i (way-is c ∙ e)).0,
+  few (goal.at.gone_by-gone-requires c).At-loop-record,
+  λ i e. ((way_fits (num_indices (shape c.args.g)) c.loop-record.s.count (state (goal.at.gone_by-gone-requires c).At-loop-record)
+      (bytes_on (goal.at.gone_by-gone-requires c).At-loop-record)).leaves i (way-is c ∙ e)).0,
 )
 
 pub moved_by-outcome-requires : goal.moved_by-outcome-requires
 moved_by-outcome-requires c =
-    let H = (some (goal.at.moved_by-outcome-requires c).At-loop-left).2 in record {
+    let H = (some (goal.at.moved_by-outcome-requires c).At-loop-record).2 in record {
       round_below = (
         c.requires.below,
         record {
-          each = c.loop-left.invariant.0;
-          few = few (goal.at.moved_by-outcome-requires c).At-loop-left;
+          each = c.loop-record.invariant.0;
+          few = few (goal.at.moved_by-outcome-requires c).At-loop-record;
           order_below = order-low H.has_start H.shows;
         },
       );
-      can_move = way_ready H.has_start H.shows (bytes_on (goal.at.moved_by-outcome-requires c).At-loop-left) c.loop-left.s.count (counted (goal.at.moved_by-outcome-requires c).At-loop-left H)
+      can_move = way_ready H.has_start H.shows (bytes_on (goal.at.moved_by-outcome-requires c).At-loop-record) c.loop-record.s.count (counted (goal.at.moved_by-outcome-requires c).At-loop-record H)
           c.way_on-way.result (way-is (goal.at.moved_by-outcome-requires c).After-way_on-way);
     }
 
-abbrev at : After-moved_by-outcome → At-loop-left
-at c = (goal.at.After-moved_by-outcome c).At-loop-left
+abbrev at : After-moved_by-outcome → At-loop-record
+at c = (goal.at.After-moved_by-outcome c).At-loop-record
 
 abbrev given : After-moved_by-outcome → Outcome → After
 given c o =
     let n = c.moved_by-outcome.new in
-    answered (round (at c)) n.first n.coefficients n.order n.marks c.loop-left.s o
+    answered (round (at c)) n.first n.coefficients n.order n.marks c.loop-record.s o
 
 -- what the way leads to
 leads : (c : After-moved_by-outcome) (o : Outcome) → c.moved_by-outcome.result ≡ o → {start : List ℕ} {a : Simplex} (H : Holds (at c) start a)
-    → WayLeads H.has_start H.shows (bytes_on (at c)) c.loop-left.s.count (counted (at c) H)
+    → WayLeads H.has_start H.shows (bytes_on (at c)) c.loop-record.s.count (counted (at c) H)
     c.gone_by-gone.result
     (given c o)
 leads c o e H =
-    let l = c.loop-left in
+    let l = c.loop-record in
     let w = c.way_on-way.result in
     let W : ℕ → After → Type 0 = WayLeads H.has_start H.shows (bytes_on (at c)) l.s.count (counted (at c) H) in
     let out = c.gone_by-gone.ensures
@@ -141,37 +137,37 @@ leads c o e H =
     (way_leads H.has_start H.shows (bytes_on (at c)) l.s.count (counted (at c) H) w (way-is (goal.at.After-moved_by-outcome c).After-way_on-way)))
 
 -- where no record leads on, all lead nowhere
-ends : (c : At-loop-left) → 0 < c.loop-left.left → (start : List ℕ) (a : Simplex)
+ends : (c : At-loop-record) → c.loop-record._record < c.args.number → (start : List ℕ) (a : Simplex)
     → (H : HasRead c.args.g start c.args.tails.now a
     (state_of (round c) c.args.first.now c.args.coefficients.now c.args.order.now
     c.args.marks.now c.args.begun))
     → let p = problem_by c.args.g start in
-    ((k : ℕ) → rebuilt_from p (suc k) (c.loop-left.invariant.3 start a H).0 (bytes_on c) ≡ none)
+    ((k : ℕ) → rebuilt_from p (suc k) (c.loop-record.invariant.3 start a H).0 (bytes_on c) ≡ none)
     → rebuilt_from p c.args.number a (drop c.args.from c.args.trail.now) ≡ none
 ends c more start a H e =
-    let l = c.loop-left in
+    let l = c.loop-record in
     let v = l.invariant.3 start a H in
     let p = problem_by c.args.g start in
-    let z : l.left ≡ suc (l.left - 1) = omega (arith, more) in
-    led_all p a _ c.args.number v.2 l.left (omega (arith, l.invariant.5))
+    let left = c.args.number - l._record in
+    let z : left ≡ suc (left - 1) = omega (arith, more) in
+    led_all p a _ c.args.number v.2 left (omega (arith, more))
     ∙ ap (λ (n : ℕ). rebuilt_from p n v.0 (bytes_on c)) z
-    ∙ e (l.left - 1)
+    ∙ e (left - 1)
 
-pub returns-in-PlaceEnd : goal.returns-in-PlaceEnd
-returns-in-PlaceEnd c = λ start a H.
-    let m = (goal.at.returns-in-PlaceEnd c).After-moved_by-outcome in
-    let v = c.loop-left.invariant.3 start a H in
-    ends (at m) c.loop-left-test.true start a H
-    (nowhere v.1 (bytes_on (at m)) c.loop-left.s.count (counted (at m) v.1) c.gone_by-gone.result
-    (leads m _ c.in-PlaceEnd.is v.1) (λ f q. place-ends _ f _ q))
+-- an end leads to no state
+stays : (c : After-moved_by-outcome) (o : Outcome) → ((s : Status) → o ≡ Moved s → ⊥) → (f : State)
+    → given c o ≡ goes f → ⊥
+stays c (PlaceEnd k) n f q = place-ends _ f _ q
+stays c (FacetEnd k) n f q = facet-ends _ f _ q
+stays c (Moved s) n f q = n s refl
 
-pub returns-in-FacetEnd : goal.returns-in-FacetEnd
-returns-in-FacetEnd c = λ start a H.
-    let m = (goal.at.returns-in-FacetEnd c).After-moved_by-outcome in
-    let v = c.loop-left.invariant.3 start a H in
-    ends (at m) c.loop-left-test.true start a H
-    (nowhere v.1 (bytes_on (at m)) c.loop-left.s.count (counted (at m) v.1) c.gone_by-gone.result
-    (leads m _ c.in-FacetEnd.is v.1) (λ f q. facet-ends _ f _ q))
+pub returns-in_default : goal.returns-in_default
+returns-in_default c = λ start a H.
+    let m = (goal.at.returns-in_default c).After-moved_by-outcome in
+    let v = c.loop-record.invariant.3 start a H in
+    ends (at m) c.loop-record-test.true start a H
+    (nowhere v.1 (bytes_on (at m)) c.loop-record.s.count (counted (at m) v.1) c.gone_by-gone.result
+    (leads m _ refl v.1) (stays m _ c.in_default.not-Moved))
 
 -- a place is reached
 abbrev made : In-Moved → After-moved_by-outcome
@@ -187,12 +183,12 @@ onward c =
 
 arrives : (c : In-Moved) {start : List ℕ} {a : Simplex} (H : Holds (at (made c)) start a)
     → (b : Simplex) × Arrives (problem_by c.args.g start) a b (onward c)
-    × OnlyPlace H.has_start H.shows (bytes_on (at (made c))) c.loop-left.s.count
+    × OnlyPlace H.has_start H.shows (bytes_on (at (made c))) c.loop-record.s.count
     (counted (at (made c)) H) b
     × ((x : ℕ) → (change (problem_by c.args.g start) a b).points_out ≡ x ∷ [] → c.gone_by-gone.result ≡ x)
 arrives c H =
     let m = made c in
-    on H (bytes_on (at m)) c.loop-left.s.count (counted (at m) H) c.gone_by-gone.result
+    on H (bytes_on (at m)) c.loop-record.s.count (counted (at m) H) c.gone_by-gone.result
     (leads m (Moved (status c)) c.in-Moved.is H)
 
 pub arrive-bytes-requires : goal.arrive-bytes-requires
@@ -201,7 +197,7 @@ arrive-bytes-requires c =
     let m = made d in
     let a = c.args in
     let w = c.requires in
-    let l = c.loop-left in
+    let l = c.loop-record in
     let H = (some (at m)).2 in
     let K = arrives d H in
     let n = c.moved_by-outcome.new in
@@ -237,15 +233,15 @@ back c =
     c.in-Moved.status
 
 differs : (c : After-arrive-bytes) → c.arrive-bytes.result ≡ 0 → {start : List ℕ} {a : Simplex}
-    → Holds (goal.at.After-arrive-bytes c).At-loop-left start a
+    → Holds (goal.at.After-arrive-bytes c).At-loop-record start a
     → (k : ℕ)
-    → rebuilt_from (problem_by c.args.g start) (suc k) a (bytes_on (goal.at.After-arrive-bytes c).At-loop-left)
+    → rebuilt_from (problem_by c.args.g start) (suc k) a (bytes_on (goal.at.After-arrive-bytes c).At-loop-record)
     ≡ none
 differs c z H =
     let m = made (goal.at.After-arrive-bytes c).In-Moved in
     let a = c.args in
     let w = c.requires in
-    let l = c.loop-left in
+    let l = c.loop-record in
     let s = c.in-Moved.status in
     let n = c.moved_by-outcome.new in
     let K = arrives (goal.at.After-arrive-bytes c).In-Moved H in
@@ -255,11 +251,11 @@ differs c z H =
     (not_standing l.s.t l.s.u s.t s.u (come_position a.g (back c)) c.gone_by-gone.result c.arrive-bytes.ensures.value z)
 
 next : (c : After-arrive-bytes) → (c.arrive-bytes.result ≡ 0 → ⊥) → {start : List ℕ} {a : Simplex}
-    → Holds (goal.at.After-arrive-bytes c).At-loop-left start a
+    → Holds (goal.at.After-arrive-bytes c).At-loop-record start a
     → let m = made (goal.at.After-arrive-bytes c).In-Moved in
     let n = c.moved_by-outcome.new in
     let marks = c.arrive-bytes.new.marks in
-    Leads c.args.g start c.args.trail.now a c.loop-left.at
+    Leads c.args.g start c.args.trail.now a c.loop-record.at
     n.order
     marks (state_of (round (at m)) n.first n.coefficients n.order marks c.in-Moved.status)
     c.in-Moved.status.count c.arrive-bytes.result
@@ -267,7 +263,7 @@ next c z H =
     let m = made (goal.at.After-arrive-bytes c).In-Moved in
     let a = c.args in
     let w = c.requires in
-    let l = c.loop-left in
+    let l = c.loop-record in
     let s = c.in-Moved.status in
     let n = c.moved_by-outcome.new in
     let K = arrives (goal.at.After-arrive-bytes c).In-Moved H in
@@ -281,50 +277,46 @@ next c z H =
 pub returns-then-bytes-eq0 : goal.returns-then-bytes-eq0
 returns-then-bytes-eq0 c = λ start a H.
     let m = made (goal.at.returns-then-bytes-eq0 c).In-Moved in
-    ends (at m) c.loop-left-test.true start a H
-    (differs (goal.at.returns-then-bytes-eq0 c).After-arrive-bytes c.if-bytes-eq0.true (c.loop-left.invariant.3 start a H).1)
+    ends (at m) c.loop-record-test.true start a H
+    (differs (goal.at.returns-then-bytes-eq0 c).After-arrive-bytes c.if-bytes-eq0.true (c.loop-record.invariant.3 start a H).1)
 
 -- the record has a byte, and ends in the trail
 inside : (c : After-arrive-bytes) → (c.arrive-bytes.result ≡ 0 → ⊥)
     → let m = made (goal.at.After-arrive-bytes c).In-Moved in
     (1 ≤ c.arrive-bytes.result)
-    × (c.loop-left.at + c.arrive-bytes.result ≤ length c.args.trail.now)
-inside c z = let N = next c z (some (goal.at.After-arrive-bytes c).At-loop-left).2 in (N.some, N.inside)
+    × (c.loop-record.at + c.arrive-bytes.result ≤ length c.args.trail.now)
+inside c z = let N = next c z (some (goal.at.After-arrive-bytes c).At-loop-record).2 in (N.some, N.inside)
 
 pub low_bit-came-requires : goal.low_bit-came-requires
 low_bit-came-requires c = let w = inside (goal.at.low_bit-came-requires c).After-arrive-bytes c.if-bytes-eq0.false in omega (arith, w.0, w.1)
 
 pub overflow_add-came : goal.overflow_add-came
 overflow_add-came c =
-    let l = c.loop-left in
+    let l = c.loop-record in
     let w = c.requires.place in
     let v = l.invariant.3 w.0 w.1 w.2 in
     omega (
       arith,
       led_few (problem_by c.args.g w.0) w.1 _ c.args.number v.2,
       c.low_bit-came.ensures.1,
-      c.loop-left-test.true,
-      l.invariant.5,
+      c.loop-record-test.true,
       c.ranges.number.fits,
     )
 
 pub overflow_add-at : goal.overflow_add-at
 overflow_add-at c =
     let w = inside (goal.at.overflow_add-at c).After-arrive-bytes c.if-bytes-eq0.false in
-    omega (arith, w.1, c.loop-left.invariant.4)
+    omega (arith, w.1, c.loop-record.invariant.4)
 
-pub loop-left-smaller-in-Moved : goal.loop-left-smaller-in-Moved
-loop-left-smaller-in-Moved c = omega (arith, c.loop-left-test.true)
-
-pub loop-left-preserved-in-Moved : goal.loop-left-preserved-in-Moved
-loop-left-preserved-in-Moved c =
-    let p = (goal.at.loop-left-preserved-in-Moved c).At-loop-left in
-    let l = c.loop-left in
+pub loop-record-preserved : goal.loop-record-preserved
+loop-record-preserved c =
+    let p = (goal.at.loop-record-preserved c).At-loop-record in
+    let l = c.loop-record in
     let number = c.args.number in
     let trail = c.args.trail.now in
-    let M = next (goal.at.loop-left-preserved-in-Moved c).After-arrive-bytes c.if-bytes-eq0.false (some p).2 in
-    let test = c.loop-left-test.true in
-    let e : number - (l.left - 1) ≡ suc (number - l.left) = omega (arith, test, l.invariant.5) in
+    let M = next (goal.at.loop-record-preserved c).After-arrive-bytes c.if-bytes-eq0.false (some p).2 in
+    let test = c.loop-record-test.true in
+    let e : l._record + 1 ≡ suc l._record = omega arith in
     let here : l.at + 0 ≡ l.at = omega arith in
     let byte = get_or-drop l.at trail 0 0 ∙ ap (λ (i : ℕ). get_or trail i 0) here in (
       M.each,
@@ -332,25 +324,20 @@ loop-left-preserved-in-Moved c =
       M.inside,
       λ start a H.
           let v = l.invariant.3 start a H in
-          let N = next (goal.at.loop-left-preserved-in-Moved c).After-arrive-bytes c.if-bytes-eq0.false v.1 in (
+          let N = next (goal.at.loop-record-preserved c).After-arrive-bytes c.if-bytes-eq0.false v.1 in (
             N.next,
             record { has_start = v.1.has_start; shows = N.shows; sums = v.1.sums },
-            led_on (problem_by c.args.g start) a _ number v.2 (omega (arith, test, l.invariant.5)) N.next _
+            led_on (problem_by c.args.g start) a _ number v.2 (omega (arith, test)) N.next _
                 N.reads e (c.low_bit-came.ensures.0 ∙ ap (λ (x : ℕ). x % 2) (sym byte)) refl,
           ),
       l.invariant.4,
-      omega (arith, l.invariant.5),
     )
-
-pub loop-left-smaller : goal.loop-left-smaller
-loop-left-smaller c = omega (arith, c.loop-left-test.true)
 
 pub returns : goal.returns
 returns c = λ start a H.
-    let l = c.loop-left in
+    let l = c.loop-record in
     let v = l.invariant.3 start a H in
-    let e : l.left ≡ 0 = omega (arith, c.loop-left-test.false) in
-    let all : c.args.number - l.left ≡ c.args.number = omega (arith, e) in
+    let all : l._record ≡ c.args.number = omega arith in
     let p = problem_by c.args.g start in
     record {
       place = v.0;

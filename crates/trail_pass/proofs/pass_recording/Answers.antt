@@ -14,12 +14,12 @@ use Rattle.path_pass.proofs.Visits.{spends}
 use Rattle.path_pass.proofs.Passing.{MovesTo, Place, asks, can_look, counted-on, facet-ends, further}
 use Rattle.path_pass.proofs.Passing.{goes-next, has_looked, labels-fit, passes-first, passes_on, place-ends, rounds}
 use Rattle.path_pass.proofs.Passing.{spent, stands}
-use Rattle.path_pass.specs.Finish.{problem_in}
+use Rattle.path_pass.specs.Finish.{Finished, ended_of, problem_in}
 use Rattle.grid.proofs.Fields.{indices-few}
 use Rattle.marks.specs.Reading.{table_problem}
 use Rattle.moves.specs.Held.{answered, state_of}
 use Rattle.moves.specs.declared.Outcome.{Outcome}
-use Rattle.moves.specs.declared.Outcome.TheVariants.{Moved}
+use Rattle.moves.specs.declared.Outcome.TheVariants.{FacetEnd, Moved, PlaceEnd}
 use Rattle.moves.specs.declared.Status.{Status}
 use Rattle.place.specs.Path.{path, path_length}
 use Rattle.place.specs.Problem.{Problem}
@@ -33,7 +33,7 @@ use Rattle.trail_visits.specs.Visited.{record_here, with_record}
 use Rattle.trail_pass.proofs.OnTrail.{SoFar, come-fits, ended-whole, first-bytes, left-none, next-end}
 use Rattle.trail_pass.proofs.OnTrail.{next-left, next-short, next_so_far, next_trail, part_fits, so_far_none}
 use Rattle.trail_pass.proofs.OnTrail.{trail_none, whole-at}
-use Rattle.trail_pass.specs.Recording.{left_behind}
+use Rattle.trail_pass.specs.Recording.{Recorded, left_behind}
 use Rattle.ways.proofs.Here.{can_tell, here-steps, same-gone, same_way}
 use Rattle.ways.proofs.RuleOne.{KeepsBoth, rule-one}
 use Rattle.ways.specs.Ways.{CanTell, gone_by, way_here}
@@ -233,28 +233,28 @@ whole c last =
 pub recorded-requires : goal.recorded-requires
 recorded-requires c = let P = here (goal.at.recorded-requires c).After-make_move-outcome in (P.more, P.passing.low)
 
-pub shape_of-trail-in-PlaceEnd : goal.shape_of-trail-in-PlaceEnd
-shape_of-trail-in-PlaceEnd c = stays (goal.at.shape_of-trail-in-PlaceEnd c).After-make_move-outcome
+pub shape_of-trail-in_default-outcome : goal.shape_of-trail-in_default-outcome
+shape_of-trail-in_default-outcome c = stays (goal.at.shape_of-trail-in_default-outcome c).After-make_move-outcome
 
-pub returns-in-PlaceEnd : goal.returns-in-PlaceEnd
-returns-in-PlaceEnd c =
-    let past = (goal.at.returns-in-PlaceEnd c).After-make_move-outcome in
-    let N = place-ends (here past) (steps past _ c.in-PlaceEnd.is) in
-    let W = whole past (ended-whole (problem past) (here past).budget N.0.is) in
-    rw (c.recorded.ensures.0, c.in-PlaceEnd.is) record { finished = N; recorded = (c.recorded.ensures.1 ∙ W.0, W.1) }
+-- the path has ended at the last place
+ended : (c : After-make_move-outcome) (o : Outcome) → ((s : Status) → o ≡ Moved s → ⊥) → Goes c o
+    → let P = here c in
+    let a = c.args in
+    let n = c.make_move-outcome.new in
+    let finish = ended_of P.stand o a.budget in
+    Finished (problem c) a.budget (rounds P) n.first n.order finish
+    × Recorded (problem c) a.writes a.budget a.trail.now (trail_after c) c.loop-at.end finish
+ended c (PlaceEnd k) n M =
+    let N = place-ends (here c) M in (N, whole c (ended-whole (problem c) (here c).budget N.0.is))
+ended c (FacetEnd k) n M =
+    let N = facet-ends (here c) M in (N, whole c (ended-whole (problem c) (here c).budget N.0.is))
+ended c (Moved s) n M = absurd (n s refl)
 
-pub recorded-requires-in-FacetEnd : goal.recorded-requires-in-FacetEnd
-recorded-requires-in-FacetEnd c = let P = here (goal.at.recorded-requires-in-FacetEnd c).After-make_move-outcome in (P.more, P.passing.low)
-
-pub shape_of-trail-in-FacetEnd : goal.shape_of-trail-in-FacetEnd
-shape_of-trail-in-FacetEnd c = stays (goal.at.shape_of-trail-in-FacetEnd c).After-make_move-outcome
-
-pub returns-in-FacetEnd : goal.returns-in-FacetEnd
-returns-in-FacetEnd c =
-    let past = (goal.at.returns-in-FacetEnd c).After-make_move-outcome in
-    let N = facet-ends (here past) (steps past _ c.in-FacetEnd.is) in
-    let W = whole past (ended-whole (problem past) (here past).budget N.0.is) in
-    rw (c.recorded-in-FacetEnd.ensures.0, c.in-FacetEnd.is) record { finished = N; recorded = (c.recorded-in-FacetEnd.ensures.1 ∙ W.0, W.1) }
+pub returns-in_default-outcome : goal.returns-in_default-outcome
+returns-in_default-outcome c =
+    let m = (goal.at.returns-in_default-outcome c).After-make_move-outcome in
+    let E = ended m _ c.in_default-outcome.not-Moved (steps m _ refl) in
+    rw (c.recorded.ensures.0, c.recorded.ensures.1) record { finished = E.0; recorded = E.1 }
 
 abbrev status : In-Moved → Status
 status c = c.in-Moved.status
@@ -288,8 +288,7 @@ so_far_lem : (c : In-Moved)
     → let P = here (goal.at.In-Moved c).After-make_move-outcome in
     SoFar P.g P.start P.table
     (record {
-      t = P.stand.status.t;
-      u = P.stand.status.u;
+      sets = record { t = P.stand.status.t; u = P.stand.status.u };
       gone = c.tell-gone.result;
     })
     (suc (spent P)) c.loop-at.end
@@ -324,12 +323,12 @@ overflow_add-end c =
 pub on-at-requires : goal.on-at-requires
 on-at-requires c = let P = here (goal.at.on-at-requires c).After-make_move-outcome in (P.more, labels-fit P (on-there (goal.at.on-at-requires c).In-Moved))
 
-pub loop-at-smaller-in-Moved : goal.loop-at-smaller-in-Moved
-loop-at-smaller-in-Moved c = rw c.on-at.ensures (omega (arith, (here (goal.at.loop-at-smaller-in-Moved c).After-make_move-outcome).more))
+pub loop-at-smaller : goal.loop-at-smaller
+loop-at-smaller c = rw c.on-at.ensures (omega (arith, (here (goal.at.loop-at-smaller c).After-make_move-outcome).more))
 
-pub loop-at-preserved-in-Moved : goal.loop-at-preserved-in-Moved
-loop-at-preserved-in-Moved c =
-    let past = (goal.at.loop-at-preserved-in-Moved c).In_default in let met = (goal.at.loop-at-preserved-in-Moved c).In-Moved in let there = (goal.at.loop-at-preserved-in-Moved c).After-make_move-outcome in
+pub loop-at-preserved : goal.loop-at-preserved
+loop-at-preserved c =
+    let past = (goal.at.loop-at-preserved c).In_default in let met = (goal.at.loop-at-preserved c).In-Moved in let there = (goal.at.loop-at-preserved c).After-make_move-outcome in
     let P = here there in
     let l = c.loop-at in
     let tell = c.tell-gone in (
@@ -337,7 +336,7 @@ loop-at-preserved-in-Moved c =
       c.make_move-outcome.ensures.each,
       rw (c.on-at.ensures, further P) (record {
         so_far = so_far_lem met;
-        counted = longer (goal.at.loop-at-preserved-in-Moved c).After-bytes_to-end;
+        counted = longer (goal.at.loop-at-preserved c).After-bytes_to-end;
         kept = λ r q. keeps met r;
         written = put there;
         long = stays there;

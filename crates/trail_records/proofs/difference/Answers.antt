@@ -1,40 +1,32 @@
 -- `trail_records::difference` meets its contract. The invariant: the search from here finds what the whole search
--- finds. The measure: the indices left. Assumes nothing.
+-- finds. Assumes nothing.
 use mathlib.Core.Bool.{true, false, beq}
-use mathlib.Core.Path.{◌≡◌, refl, sym, ap, ◌∙◌}
+use mathlib.Core.Path.{◌≡◌, sym, ap, ◌∙◌}
 use Prim.Native.Nat.{ℕ, suc, ◌-◌}
 use borrow.Author.Tests.{not-true, not-false}
 use native.Mathlib.Numerals.{add-one}
 use native.Mathlib.Omega.{arith}
 use Rattle.rules.specs.Mask.{bit}
 use Rattle.trail_records.specs.Records.{differing_from}
-use Rattle.trail_records.proofs.Differences.{differs_spent, differs_here, differs_later, same_none}
+use Rattle.trail_records.proofs.Differences.{differs_spent, differs_here, differs_later}
 use Rattle.trail_records.proofs.difference.Goals as goal
-
-pub returns-then-a-b : goal.returns-then-a-b
-returns-then-a-b c = (sym (same_none c.args.a c.args.b c.if-a-b.true), omega arith)
-
-pub loop-h-init : goal.loop-h-init
-loop-h-init c = (refl, omega arith)
 
 pub loop-h-preserved : goal.loop-h-preserved
 loop-h-preserved c =
     let a = c.args in
     let l = c.loop-h in
     let same : beq (bit a.a l.h) (bit a.b l.h) ≡ true =
-    rw (← c.has.ensures, ← c.has-in-loop-h.ensures) (not-false _ c.if-has.false) in (
-      rw (add-one l.h)
-          (sym (differs_later a.a a.b (16 - suc l.h) l.h same)
-          ∙ ap (λ (n : ℕ). differing_from a.a a.b n l.h) (omega arith)
-          ∙ l.invariant.0),
-      omega arith,
-    )
+    rw (← c.has.ensures, ← c.has-in-loop-h.ensures) (not-false _ c.if-has.false) in
+    rw (add-one l.h)
+    (sym (differs_later a.a a.b (16 - suc l.h) l.h same)
+    ∙ ap (λ (n : ℕ). differing_from a.a a.b n l.h) (omega arith)
+    ∙ l.invariant)
 
-pub returns-after-loop-h : goal.returns-after-loop-h
-returns-after-loop-h c =
+pub returns : goal.returns
+returns c =
     let a = c.args in
     let l = c.loop-h in
-    (sym (differs_spent a.a a.b (16 - l.h) l.h (omega arith)) ∙ l.invariant.0, omega arith)
+    (omega (arith, differs_spent a.a a.b (16 - l.h) l.h (omega arith), l.invariant), omega arith)
 
 pub returns-then-has : goal.returns-then-has
 returns-then-has c =
@@ -42,4 +34,4 @@ returns-then-has c =
     let l = c.loop-h in
     let other : beq (bit a.a l.h) (bit a.b l.h) ≡ false =
     rw (← c.has.ensures, ← c.has-in-loop-h.ensures) (not-true _ c.if-has.true) in
-    (sym (differs_here a.a a.b (16 - l.h) l.h other) ∙ l.invariant.0, omega arith)
+    (sym (differs_here a.a a.b (16 - l.h) l.h other) ∙ l.invariant, omega arith)

@@ -20,13 +20,13 @@ pub overflow_mul-marks : goal.overflow_mul-marks
 overflow_mul-marks c =
     omega (arith, c.come_in-come.ensures, c.requires.can_compare.come)
 
-pub offset_bounds-marks-i : goal.offset_bounds-marks-i
-offset_bounds-marks-i c =
+pub offset_bounds-marks-s : goal.offset_bounds-marks-s
+offset_bounds-marks-s c =
     let R = (c.requires.measured.1 c.if-s-lt6.true).reads.point in
     omega (arith, R.low, R.few)
 
-pub bounds-marks-i : goal.bounds-marks-i
-bounds-marks-i c =
+pub bounds-marks-s : goal.bounds-marks-s
+bounds-marks-s c =
     let R = (c.requires.measured.1 c.if-s-lt6.true).reads.point in
     omega (arith, R.low, R.few)
 

@@ -20,22 +20,13 @@ returns-then-room-eq0 c =
 pub bounds-trail-at : goal.bounds-trail-at
 bounds-trail-at c = omega (arith, c.if-room-eq0.false)
 
-pub overflow_mul-from : goal.overflow_mul-from
-overflow_mul-from c = omega (arith, c.wide-byte.ensures.1)
-
-pub overflow_add-from : goal.overflow_add-from
-overflow_add-from c = omega (arith, c.wide-byte.ensures.1)
-
-pub overflow_add-from-then-byte-eq1 : goal.overflow_add-from-then-byte-eq1
-overflow_add-from-then-byte-eq1 c = omega (arith, c.wide-byte.ensures.1)
-
 pub returns-then-room-from : goal.returns-then-room-from
 returns-then-room-from c =
     let a = c.args in
     let s = state_of no_round [] [] [] a.marks.now a.s in
     let t = a.trail.now in
     short-out a.m a.s.count s t a.at c.if-room-eq0.false
-    c.wide-byte.result c.wide-byte.ensures.0 c.if-byte-eq1.true c.if-room-from.true
+    c.from-byte.result c.from-byte.ensures c.if-byte-eq1.true c.if-room-from.true
 
 pub overflow_add-at : goal.overflow_add-at
 overflow_add-at c = omega (arith, c.if-room-from.false)
@@ -53,7 +44,7 @@ returns-then-byte-eq1 c =
     let t = a.trail.now in
     c.leaving.ensures
     ∙ way_out a.m a.s.count s t a.at c.if-room-eq0.false
-    c.wide-byte.result c.wide-byte.ensures.0
+    c.from-byte.result c.from-byte.ensures
     c.if-byte-eq1.true c.if-room-from.false c.word.result
     c.word.ensures.0
 
@@ -63,7 +54,7 @@ returns-then-room-lt4 c =
     let s = state_of no_round [] [] [] a.marks.now a.s in
     let t = a.trail.now in
     short_into a.m a.s.count s t a.at c.if-room-eq0.false
-    c.wide-byte.result c.wide-byte.ensures.0 c.if-byte-eq1.false c.if-room-lt4.true
+    c.from-byte.result c.from-byte.ensures c.if-byte-eq1.false c.if-room-lt4.true
 
 pub overflow_add-at-2 : goal.overflow_add-at-2
 overflow_add-at-2 c = omega (arith, c.if-room-lt4.false)
@@ -81,6 +72,6 @@ returns c =
     let t = a.trail.now in
     c.joining.ensures
     ∙ way_into a.m a.s.count s t a.at c.if-room-eq0.false
-    c.wide-byte.result
-    c.wide-byte.ensures.0 c.if-byte-eq1.false
-    c.if-room-lt4.false c.wide.result c.wide.ensures.0
+    c.from-byte.result
+    c.from-byte.ensures c.if-byte-eq1.false
+    c.if-room-lt4.false c.from.result c.from.ensures

@@ -31,7 +31,7 @@ kept c =
     let behind = c.if-at-gt0.true in
     rw (
       ne_eqb a.at 0 (λ e. omega arith),
-      same_record a.before.t a.before.u a.s.t a.s.u _ a.before.gone
+      same_record a.before.sets.t a.before.sets.u a.s.t a.s.u _ a.before.gone
           (c.requires.kept c.if-s-eq1.true behind),
       ← c.position_at-come.ensures.0,
     ) c.kept_record.ensures

@@ -9,7 +9,7 @@ use Rattle.nearest_visited.proofs.Distances.{distance-front, distance_turn}
 use Rattle.nearest_met.proofs.distances.distance_of.Goals as goal
 
 pub loop-h-init : goal.loop-h-init
-loop-h-init c = ((λ g C. refl), omega arith, omega arith)
+loop-h-init c = ((λ g C. refl), omega arith)
 
 pub offset_bounds-y-h : goal.offset_bounds-y-h
 offset_bounds-y-h c = omega (arith, c.requires.1.sixteen)
@@ -45,7 +45,7 @@ overflow_add-total c =
     let m : c.apart.result * at c.args.weights.now l.h ≤ 65535 * 60000 = mul-le-mul
     c.apart.ensures.1
     (C.each.few l.h (omega (arith, C.indices, c.loop-h-test.true))) in
-    omega (arith, l.invariant.2, c.loop-h-test.true, C.sixteen)
+    omega (arith, l.invariant.1, c.loop-h-test.true, C.sixteen)
 
 pub loop-h-preserved : goal.loop-h-preserved
 loop-h-preserved c =
@@ -61,12 +61,11 @@ loop-h-preserved c =
         c.apart.ensures.0,
         D.each.are l.h (omega (arith, D.indices, t)),
       )),
-      omega arith,
-      omega (arith, l.invariant.2),
+      omega (arith, l.invariant.1),
     )
 
 pub returns : goal.returns
 returns c = λ g C.
     let l = c.loop-h in
-    let e : l.h ≡ c.args.m = omega (arith, l.invariant.1, c.loop-h-test.false) in
+    let e : l.h ≡ c.args.m = omega arith in
     l.invariant.0 g C ∙ rw e (distance-front g c.args.w.now c.args.y.now c.args.m C.indices)

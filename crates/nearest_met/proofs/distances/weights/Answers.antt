@@ -13,7 +13,7 @@ use Rattle.nearest_visited.specs.Distance.{other_divisions}
 use Rattle.nearest_met.proofs.distances.weights.Goals as goal
 
 pub loop-h-init : goal.loop-h-init
-loop-h-init c = ((λ k l. absurd (omega arith)), omega arith, refl)
+loop-h-init c = ((λ k l. absurd (omega arith)), refl)
 
 pub block_of-requires : goal.block_of-requires
 block_of-requires c = (c.requires, c.loop-h-test.true)
@@ -53,11 +53,10 @@ loop-h-preserved c =
     let r = c.others in (
       (λ k d. at_set
           (λ (x : ℕ). (x ≡ other_divisions (shape g) (block_of (shape g) k)) × (x ≤ 60000))
-          l.a l.h r.result k (omega (arith, l.invariant.2))
+          l.a l.h r.result k (omega (arith, l.invariant.1))
           (λ e. rw e (r.ensures.0 ∙ ap (other_divisions (shape g)) c.block_of.ensures, r.ensures.1))
           (λ n. l.invariant.0 k (omega (arith, n)))),
-      omega arith,
-      length-set l.a l.h r.result ∙ l.invariant.2,
+      length-set l.a l.h r.result ∙ l.invariant.1,
     )
 
 pub returns : goal.returns

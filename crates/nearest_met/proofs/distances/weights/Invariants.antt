@@ -1,7 +1,7 @@
 -- `nearest_met::distances::weights` meets its contract. The invariant: the weights of the indices passed. Assumes
 -- nothing.
 use mathlib.Core.Path.{◌≡◌}
-use Prim.Native.Nat.{ℕ, ◌-◌, ◌≤◌, ◌<◌}
+use Prim.Native.Nat.{ℕ, ◌≤◌, ◌<◌}
 use lib.ListN.{length}
 use Rattle.grid_points.specs.Grid.{at, block_of}
 use Rattle.grid.specs.Made.{shape}
@@ -10,8 +10,5 @@ use Rattle.nearest_met.proofs.distances.weights.Given as goal
 
 abbrev pub invariant-loop-h : goal.invariant-loop-h
 invariant-loop-h l =
-    ((k : ℕ) → k < l.h → (at l.a k ≡ other_divisions (shape l.g) (block_of (shape l.g) k)) × (at l.a k ≤ 60000)) × (l.h ≤ l.m)
+    ((k : ℕ) → k < l.h → (at l.a k ≡ other_divisions (shape l.g) (block_of (shape l.g) k)) × (at l.a k ≤ 60000))
     × (length l.a ≡ 16)
-
-abbrev pub decreases-loop-h : goal.decreases-loop-h
-decreases-loop-h l = l.m - l.h

@@ -92,9 +92,9 @@ overflow_sub-number c = omega (
   c.requires.number_nonzero,
 )
 
-pub follow-reached-requires : goal.follow-reached-requires
-follow-reached-requires c =
-    let here = (goal.at.follow-reached-requires c).After-stands in
+pub follow-requires : goal.follow-requires
+follow-requires c =
+    let here = (goal.at.follow-requires c).After-stands in
     let w = c.requires.can_rebuild in
     let yes = sym (told here) ∙ c.if-not-stands.false in
     record {
@@ -107,11 +107,11 @@ follow-reached-requires c =
       low = begins_three (problem here) c.args.trail.now yes;
     }
 
-pub overflow_add-came : goal.overflow_add-came
-overflow_add-came c =
-    let here = (goal.at.overflow_add-came c).After-stands in
+pub overflow_add-reached : goal.overflow_add-reached
+overflow_add-reached c =
+    let here = (goal.at.overflow_add-reached c).After-stands in
     let n = c.args.number - 1 in
-    let R = c.in-At.ensures (start here) (start here ∷ []) (held here) in
+    let R = c.in-Some.ensures (start here) (start here ∷ []) (held here) in
     let few = came_few (places_from (problem here) n (start here ∷ []) (drop 3 c.args.trail.now)) n in
     omega (arith, R.brought, few, c.requires.number_nonzero, c.ranges.number.fits)
 
@@ -125,7 +125,7 @@ placed-requires c =
     let a = c.args in
     let w = c.requires.can_rebuild in
     let few = indices-few a.g w.measured.made in
-    let R = c.in-At.ensures (start here) (start here ∷ []) (held here) in
+    let R = c.in-Some.ensures (start here) (start here ∷ []) (held here) in
     let C = computes w.has_start R.shows in (
       record {
         below = w.below.backward;
@@ -138,27 +138,26 @@ placed-requires c =
       R.many,
     )
 
-pub returns-in-At : goal.returns-in-At
-returns-in-At c =
-    let here = (goal.at.returns-in-At c).After-stands in
+pub returns : goal.returns
+returns c =
+    let here = (goal.at.returns c).After-stands in
     let a = c.args in
     let w = c.requires.can_rebuild in
     let trail = a.trail.now in
-    let n = c.follow-reached.new in
+    let n = c.follow.new in
     let yes = sym (told here) ∙ c.if-not-stands.false in
-    let R = c.in-At.ensures (start here) (start here ∷ []) (held here) in
+    let R = c.in-Some.ensures (start here) (start here ∷ []) (held here) in
     let there = reads-place (problem here) trail a.number c.requires.number_nonzero yes R.place R.is _ R.brought in
     reads_by a.g w.measured.made (start here) trail a.number w.has_start R.place a.previous.now
     a.next.now a.sizes.now n.first n.coefficients n.order n.marks
-    c.in-At.status _ R.shows a.points c.placed.result
+    c.in-Some.reached.status _ R.shows a.points c.placed.result
     c.placed.ensures there
 
-pub returns-in-Nowhere : goal.returns-in-Nowhere
-returns-in-Nowhere c =
-    let here = (goal.at.returns-in-Nowhere c).After-stands in
+pub returns-in_default : goal.returns-in_default
+returns-in_default c =
+    let here = (goal.at.returns-in_default c).After-stands in
     let a = c.args in
     let yes = sym (told here) ∙ c.if-not-stands.false in
-    let R = c.in-Nowhere.ensures (start here)
-    (start here ∷ []) (held here) in
-    reads_17 a.g (start here) a.trail.now a.number a.points c.refused-in-Nowhere.result c.refused-in-Nowhere.ensures
+    let R = c.in_default.ensures (start here) (start here ∷ []) (held here) in
+    reads_17 a.g (start here) a.trail.now a.number a.points c.refused-in_default.result c.refused-in_default.ensures
     (reads_none (problem here) a.trail.now a.number c.requires.number_nonzero yes R)
