@@ -11,35 +11,20 @@ pub fn all_at_most(labels: &[u8], m: u8) -> bool
     ensures { result ≡ all (λ l. leb l m) labels.now }
 {
     let mut most: u8 = 0;
-    let mut i: usize = 0;
-    while i < labels.len() {
-        let label = labels[i];
-        if most < label {
-            most = label;
-        }
-        i += 1;
+    for &label in labels {
+        most = most.max(label);
     }
     most <= m
 }
 
-// A label, or that there is none.
-#[derive(Clone, Copy)]
-pub enum Label {
-    Is(u8),
-    Unknown,
-}
-
-// The label at a position. Runs and walks read a label by this function alone, where its point comes in; the checks of
-// a walk's place and of an end call it too.
-pub fn read_at(labels: &[u8], position: usize) -> Label
+// The label at a position, if there is one. Runs and walks read a label by this function alone, where its point comes
+// in; the checks of a walk's place and of an end call it too.
+pub fn read_at(labels: &[u8], position: usize) -> Option<u8>
     requires { position < length labels.now }
     ensures { result ≡ label_of (get_or labels.now position 0) }
 {
     let byte = labels[position];
-    if byte == 0 {
-        return Label::Unknown;
-    }
-    Label::Is(byte)
+    if byte == 0 { None } else { Some(byte) }
 }
 
 // The label at a position as a walk carries it: 0 where there is none, and 16 is asked of it there.
@@ -47,8 +32,5 @@ pub fn byte_at(labels: &[u8], position: usize) -> u8
     requires { position < length labels.now }
     ensures { result ≡ get_or labels.now position 0 }
 {
-    match read_at(labels, position) {
-        Label::Is(byte) => byte,
-        Label::Unknown => 0,
-    }
+    read_at(labels, position).unwrap_or(0)
 }

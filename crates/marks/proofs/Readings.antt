@@ -1,11 +1,12 @@
 -- The reading of a mark: a label by its position in the table, the point by its steps, and its position by the other
 -- corners of a square. Assumes nothing.
 use mathlib.Core.Bool.{true, not, ◌&&◌, ◌||◌}
-use mathlib.Core.List.{List, []}
+use mathlib.Core.List.{List}
 use mathlib.Core.Logic.{◌⊎◌, inl, inr, ⊎_elim}
 use mathlib.Core.Path.{◌≡◌, refl, ◌∙◌}
 use Prim.Native.Nat.{ℕ, suc, ◌+◌, ◌-◌, ◌≤◌, ◌<◌}
-use borrow.Author.Tests.{eqb-true, eqb-false, ltb-true, leb-true, ne_eqb, not-true}
+use Rattle.std.specs.Prelude.{Ok, Err}
+use borrow.Author.Tests.{eqb-false, ltb-true, leb-true, ne_eqb, not-true}
 use lib.Dec.{eqb, ltb, leb}
 use lib.ListN.{length, replicate, take}
 use native.Mathlib.Omega.{arith}
@@ -27,10 +28,9 @@ use Rattle.rules.specs.Read.{Exchanged, ReadyPoint, point_after, point_on, posit
 use Rattle.rules.specs.Moves.{State, mark, source, source_in}
 use Rattle.rules.specs.declared.Round.{Round}
 use Rattle.moves.specs.declared.Status.{Status}
-use Rattle.marks.specs.Reading.{Readable, CanFind, CanReadPoint, HasOrder, add_up, is_between, label_reading}
+use Rattle.marks.specs.Reading.{Readable, CanReadPoint, add_up, label_reading}
 use Rattle.marks.specs.Reading.{table_problem}
-use Rattle.marks.specs.declared.LookedUp.TheVariants.{Marked, Unknown}
-use Rattle.marks.specs.declared.one_step.Found.TheVariants.{At, Nothing}
+use Rattle.moves.specs.declared.Held.{Held}
 
 -- a grid point's label stands in the table at its position
 module _ (g : GridStruct) (binomials table : List ℕ) (R : Readable g binomials table) (y : Point) where
@@ -42,23 +42,15 @@ module _ (g : GridStruct) (binomials table : List ℕ) (R : Readable g binomials
   label_is = refl
 
   -- what is read of the point, by the byte that stands in the table
-  pub read-gap : at table (position (shape g) y) ≡ 0 → Unknown (position (shape g) y)
+  pub read-gap : at table (position (shape g) y) ≡ 0 → Err (record { position = position (shape g) y })
       ≡ label_reading (table_problem g table) y
   read-gap e = rw (label_is, e)
 
   pub read-mark : (at table (position (shape g) y) ≡ 0 → ⊥)
-      → Marked (mark (position (shape g) y) (at table (position (shape g) y))) ≡ label_reading (table_problem g table) y
+      → Ok (mark (position (shape g) y) (at table (position (shape g) y))) ≡ label_reading (table_problem g table) y
   read-mark n = rw (label_is, ne_eqb (at table (position (shape g) y)) 0 n)
 
--- the tests mean what they say
-pub between_means : (s : Status) → is_between s ≡ true → (s.rule ≡ 1) × (0 < s.active) × (s.active < s.count)
-between_means s e =
-    let r = and_right (eqb s.rule 1) _ e in (
-      eqb-true s.rule 1 (and_left (eqb s.rule 1) _ e),
-      ltb-true 0 s.active (and_left (ltb 0 s.active) _ r),
-      ltb-true s.active s.count (and_right (ltb 0 s.active) _ r),
-    )
-
+-- the test means what it says
 add_up_means : (g : Grid) (from : ℕ → ℕ) (h k : ℕ) → add_up g from h k ≡ true → Apart g h (from h) k (from k)
 add_up_means g from h k e = ⊎_elim
     (λ o. inl (eqb-false _ _ (not-true _ o)))
@@ -75,28 +67,15 @@ add_up_means g from h k e = ⊎_elim
           ⊎_elim (λ l. inl (leb-true _ _ l)) (λ l. inr (leb-true _ _ l)) ends,
         )
 
--- the steps of a point whose position can be found are those of an array
-pub has-order : {g : GridStruct} {tails : List ℕ} {a : State} {s : Status} → CanFind g tails a s
-    → a.active ≡ s.active → HasOrder a.round.previous a.order s
-has-order F e =
-    let P = F.reads.point in record {
-      below = F.reads.below;
-      order_below = P.indices;
-      active = omega (arith, P.low, F.many);
-      few = omega (arith, P.few, F.many);
-      many = F.many;
-    }
-
--- an answer is right where the position in it is, and where there is none in it
-pub at_right : {n p : ℕ} → n ≡ p → (x : ℕ) → At n ≡ At x → x ≡ p
-at_right h x e = cc
-
-pub nothing_right : {p : ℕ} (x : ℕ) → Nothing ≡ At x → x ≡ p
-nothing_right x e = let y : ◌≡◌ {A = ℕ} 0 1 = cc in absurd (omega arith)
-
 -- the point that has come in needs the steps before it only, and these are counted apart from the first point
-module _ (g : GridStruct) (made : IsMade g) (round : Round) (first order : List ℕ) (s : Status)
-    (R : CanReadPoint g (state_of round first [] order [] s)) where
+module _ (g : GridStruct) (made : IsMade g) (round : Round) (held : Held) (s : Status)
+    (R : CanReadPoint g (state_of round held s)) where
+  abbrev first : List ℕ
+  first = held.first
+
+  abbrev order : List ℕ
+  order = held.order
+
   abbrev from : ℕ → ℕ
   from = source round s.u
 
@@ -123,7 +102,7 @@ module _ (g : GridStruct) (made : IsMade g) (round : Round) (first order : List 
   can_step_lem k l = omega (arith, steps_add k l)
 
   pub point_at : take g.indices (after_steps first steps)
-      ≡ point_on (shape g) (state_of round first [] order [] s) s.active
+      ≡ point_on (shape g) (state_of round held s) s.active
   point_at =
       after_is first steps point g.indices (indices-few g made)
       (omega (arith, length-after from (take s.active order) first s.active, R.first_length, indices-few g made))

@@ -1,5 +1,6 @@
 -- What the reading of a mark asks, and the ways in which a position is found. Assumes nothing.
-use Rattle.std.specs.Prelude.{Bool, true, not, ◌&&◌, ◌||◌, cond, List, [], ◌≡◌, ℕ, ◌+◌, ◌-◌, ◌≤◌, ◌<◌, eqb, ltb, leb, length}
+use Rattle.std.specs.Prelude.{Bool, true, not, ◌&&◌, ◌||◌, cond, List, [], ◌≡◌, ℕ, ◌+◌, ◌-◌, ◌≤◌, ◌<◌, eqb, ltb, leb}
+use Rattle.std.specs.Prelude.{length, Option, Result, Ok, Err, IfSome}
 use Rattle.positions.specs.Binomials.{HasBinomials}
 use Rattle.positions.specs.Falls.{Falls}
 use Rattle.grid_points.specs.Grid.{Grid, Point, at, block_of, division, is_grid_point, num_points, position}
@@ -9,13 +10,8 @@ use Rattle.place.specs.Problem.{Problem, label}
 use Rattle.rules.specs.Ready.{IndicesBelow}
 use Rattle.rules.specs.Read.{mark_of, point_on, Exchanged, FallsBeside, CanCompute}
 use Rattle.rules.specs.Moves.{State}
-use Rattle.rules.specs.declared.Round.{Round}
-use Rattle.moves.specs.Held.{state_of}
 use Rattle.moves.specs.declared.Status.{Status}
-use Rattle.marks.specs.declared.LookedUp.{LookedUp}
-use Rattle.marks.specs.declared.LookedUp.TheVariants.{Marked, Unknown}
-use Rattle.marks.specs.declared.one_step.Found.{Found}
-use Rattle.marks.specs.declared.one_step.Found.TheVariants.{At}
+use Rattle.marks.specs.declared.Unknown.{Unknown}
 
 -- the grid, a start and the label table
 abbrev pub problem_from : GridStruct → List ℕ → List ℕ → Problem
@@ -32,8 +28,8 @@ pub record Readable (g : GridStruct) (binomials table : List ℕ) : Type 0 where
   pub whole : length table ≡ num_points (shape g)
 
 -- Request 02, "Looking up a label may therefore answer that there is none": what is read of a point
-abbrev pub label_reading : Problem → Point → LookedUp
-label_reading p y = cond (eqb (label p y) 0) (Unknown (position p.grid y)) (Marked (mark_of p y))
+abbrev pub label_reading : Problem → Point → Result ℕ Unknown
+label_reading p y = cond (eqb (label p y) 0) (Err (record { position = position p.grid y })) (Ok (mark_of p y))
 
 -- the point that has just come in can be computed, and is a grid point
 pub record CanReadPoint (g : GridStruct) (a : State) : Type 0 where
@@ -66,36 +62,16 @@ add_up g from h k =
     || ltb (from h) h && (ltb (from k) k && (leb h (from k) || leb k (from h)))
 
 -- a position that is found is that of the point that has come in
-abbrev pub IsRight : GridStruct → State → Found → Type 0
-IsRight g a r = (x : ℕ) → r ≡ At x → x ≡ position (shape g) (point_on (shape g) a a.active)
+abbrev pub IsRight : GridStruct → State → Option ℕ → Type 0
+IsRight g a r = IfSome r (λ x. x ≡ position (shape g) (point_on (shape g) a a.active))
 
--- the arrays hold the state but for its first point, which may be any for which the steps beside the point that has
--- come in are known
-abbrev pub CanFall : GridStruct → List ℕ → (List ℕ → State) → Type 0
-CanFall g tails a = (first : List ℕ) × FallsBeside (shape g) tails (a first)
-
-abbrev pub FindsBeside : GridStruct → List ℕ → (List ℕ → State) → Found → Type 0
-FindsBeside g tails a r = (first : List ℕ) → FallsBeside (shape g) tails (a first) → IsRight g (a first) r
-
--- the arrays hold the state but for its first point and that point's coefficients, which may be any for which the
--- square is known
-abbrev pub held_steps : Round → List ℕ → List ℕ → Status → List ℕ → List ℕ → State
-held_steps round order marks s first coefficients = state_of round first coefficients order marks s
-
-abbrev pub HasSquare : GridStruct → (List ℕ → List ℕ → State) → Type 0
-HasSquare g a = (first : List ℕ) × (coefficients : List ℕ) × Exchanged (shape g) (a first coefficients)
-
-abbrev pub FindsCorner : GridStruct → (List ℕ → List ℕ → State) → Found → Type 0
-FindsCorner g a r =
-    (first coefficients : List ℕ) → Exchanged (shape g) (a first coefficients) → IsRight g (a first coefficients) r
-
--- the steps of the order, and the point that has come in, are those of an array
-pub record HasOrder (previous steps : List ℕ) (s : Status) : Type 0 where
-  pub below : IndicesBelow previous
-  pub order_below : IndicesBelow steps
+-- the steps of the order, and the point that has come in, are those that a run holds
+pub record HasOrder (a : State) (s : Status) : Type 0 where
+  pub below : IndicesBelow a.round.previous
+  pub order_below : IndicesBelow a.order
   pub active : s.active ≤ s.count
   pub few : s.count ≤ 15
-  pub many : length steps ≡ s.count
+  pub many : length a.order ≡ s.count
 
 -- the sum of the coordinates from index h on, by the start's and two coefficients
 abbrev pub tail_by : List ℕ → List ℕ → ℕ → ℕ → ℕ
