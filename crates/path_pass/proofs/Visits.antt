@@ -75,7 +75,7 @@ module _ (p : Problem) (y : Point) where
       (λ n. let f = rw (ne_eqb (label p y) 0 n) at e in (omega (arith, n), cc))
       (same_or (label p y) 0)
 
-  pub unknown-zero : {e : Unknown} → label_reading p y ≡ Err e → (label p y ≡ 0) × (e.position ≡ position p.grid y)
+  pub unknown-zero : {u : Unknown} → label_reading p y ≡ Err u → (label p y ≡ 0) × (u.position ≡ position p.grid y)
   unknown-zero {u} e = ⊎_elim
       (λ (z : label p y ≡ 0). let f = rw (eq-eqb (label p y) 0 z) at e in (z, cc))
       (λ n. absurd (let f = rw (ne_eqb (label p y) 0 n) at e in let w : ◌≡◌ {A = ℕ} 0 1 = cc in omega arith))

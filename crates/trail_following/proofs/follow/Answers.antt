@@ -17,7 +17,8 @@ use Rattle.moves.specs.declared.Outcome.TheVariants.{FacetEnd, Moved, PlaceEnd}
 use Rattle.moves.specs.declared.Status.{Status}
 use Rattle.place.specs.Places.{Simplex}
 use Rattle.trail_records.proofs.Standing.{not_standing, standing}
-use Rattle.rules.specs.Moves.{After, Round, State, goes}
+use Rattle.rules.specs.Moves.{After, State, goes}
+use Rattle.rules.specs.declared.Round.{Round}
 use Rattle.trail.specs.Change.{change}
 use Rattle.trail.specs.Trail.{rebuilt_from}
 use Rattle.trail_steps.proofs.Reached.{Arrives}

@@ -37,6 +37,9 @@ moved_by-requires c =
 pub returns : goal.returns
 returns c =
     let start = (goal.at.returns c).Start in
-    c.moved_by.ensures
-    ∙ ap (way_after (place start)) (way-is (goal.at.returns c).After-way_here-way)
-    ∙ here-steps (place start)
+    record {
+      gives = c.moved_by.ensures.gives
+          ∙ ap (way_after (place start)) (way-is (goal.at.returns c).After-way_here-way)
+          ∙ here-steps (place start);
+      long = c.moved_by.ensures.long;
+    }
