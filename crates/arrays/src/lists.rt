@@ -39,6 +39,7 @@ pub fn position_at(marks: &[u32; 16], n: usize, i: usize) -> usize
 pub fn insert(a: &mut [u32; 16], n: usize, at: usize, x: u32)
     requires { (at ≤ n) × (n ≤ 15) }
     ensures { (take (n + 1) a.new ≡ insert_at at x (take n a.old))
+        × (length a.new ≡ 16)
         × (drop (n + 1) a.new ≡ drop (n + 1) a.old) }
 {
     for k in (at..n).rev() {
@@ -51,6 +52,7 @@ pub fn insert(a: &mut [u32; 16], n: usize, at: usize, x: u32)
 pub fn remove(a: &mut [u32; 16], n: usize, at: usize)
     requires { (at < n) × (n ≤ 16) }
     ensures { (take (n - 1) a.new ≡ remove_at at (take n a.old))
+        × (length a.new ≡ 16)
         × (drop (n - 1) a.new ≡ drop (n - 1) a.old) }
 {
     for k in at..n - 1 {
@@ -62,6 +64,7 @@ pub fn remove(a: &mut [u32; 16], n: usize, at: usize)
 pub fn rotate_left(a: &mut [u32; 16], n: usize)
     requires { (0 < n) × (n ≤ 16) }
     ensures { (take n a.new ≡ rotate_left (take n a.old))
+        × (length a.new ≡ 16)
         × (drop n a.new ≡ drop n a.old) }
 {
     let x = a[0];
@@ -73,6 +76,7 @@ pub fn rotate_left(a: &mut [u32; 16], n: usize)
 pub fn rotate_right(a: &mut [u32; 16], n: usize)
     requires { (0 < n) × (n ≤ 16) }
     ensures { (take n a.new ≡ rotate_right (take n a.old))
+        × (length a.new ≡ 16)
         × (drop n a.new ≡ drop n a.old) }
 {
     let x = a[n - 1];
@@ -82,7 +86,7 @@ pub fn rotate_right(a: &mut [u32; 16], n: usize)
 // Entries i and i + 1 change places.
 pub fn exchange(a: &mut [u32; 16], i: usize)
     requires { i + 1 < 16 }
-    ensures { a.new ≡ swap_at i a.old }
+    ensures { (a.new ≡ swap_at i a.old) × (length a.new ≡ 16) }
 {
     a.swap(i, i + 1);
 }

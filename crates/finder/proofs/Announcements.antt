@@ -18,8 +18,8 @@ use Rattle.grid_points.specs.Grid.{dimension, num_indices}
 use Rattle.grid_points.proofs.Points.{point-long}
 use Rattle.grid.specs.Made.{IsMade, shape}
 use Rattle.grid.specs.declared.Grid.{Grid as GridStruct}
-use Rattle.moves.specs.Held.{state_of}
-use Rattle.moves.specs.declared.Held.{Held}
+use Rattle.moves.specs.Held.{IsAt, state_of}
+use Rattle.moves.specs.declared.holding.Held.{Held}
 use Rattle.rules.specs.Read.{point_in, points_from}
 use Rattle.rules.specs.Ready.{IsRound, RoundBelow}
 use Rattle.rules.specs.Moves.{State}
@@ -43,41 +43,32 @@ module _ {g : GridStruct} {binomials start table : List ℕ} (readable : Readabl
   pub can_pad : (g.indices ≤ length start) × (g.indices ≤ 16)
   can_pad = (omega (arith, start-long), indices-few g readable.made)
 
-  -- what is held at {v}
-  abbrev pub begins : Held
-  begins = record {
-    first = front (take g.indices start) (replicate 16 0);
-    coefficients = replicate 16 0;
-    order = replicate 16 0;
-    marks = replicate 16 0;
-  }
-
-  pub problem-from : problem_in g begins.first table ≡ problem_from g start table
-  problem-from =
+  pub problem-from : {held : Held} → held.first ≡ front (take g.indices start) (replicate 16 0)
+      → problem_in g held.first table ≡ problem_from g start table
+  problem-from e =
       let f : take g.indices start ≡ start = rw (← start-long) (take-length start) in
       let h : take g.indices (front start (replicate 16 0)) ≡ start =
       rw (← start-long) (front_taken start (replicate 16 0)) in
-      rw (f, h)
+      rw (e, f, h)
 
   -- the pass can begin
-  pub can_pass : (round : Round) → IsRound (shape g) round → RoundBelow round → {held : Held} → held ≡ begins
+  pub can_pass : (round : Round) → IsRound (shape g) round → RoundBelow round → (held : Held) → IsAt start g.indices held
       → CanPass g round binomials held table
-  can_pass round is below e = rw e (record {
+  can_pass round is below held A = record {
     readable = readable;
     is_round = is;
     below = below;
-    accepted = rw problem-from ok;
-    no_coefficients = refl;
-    no_marks = refl;
-  })
+    accepted = rw (problem-from {held} A.0) ok;
+    no_coefficients = A.1.0;
+    no_marks = A.1.1;
+  }
 
   -- where it finished
-  pub finished_from : {held : Held} → held ≡ begins → (budget : ℕ) (round : Round) (last : Held) (f : Finish)
+  pub finished_from : (held : Held) → IsAt start g.indices held → (budget : ℕ) (round : Round) (last : Held) (f : Finish)
       → Finished (problem_in g held.first table) budget round last f
       → Finished (problem_from g start table) budget round last f
-  finished_from {held} e budget round last f F =
-      subst (λ (p : Problem). Finished p budget round last f)
-      (ap (λ (h : Held). problem_in g h.first table) e ∙ problem-from) F
+  finished_from held A budget round last f F =
+      subst (λ (p : Problem). Finished p budget round last f) (problem-from {held} A.0) F
 
 -- the answer at an end
 module _ (g : GridStruct) (made : IsMade g) (start table : List ℕ) (budget places : ℕ) (kind : Kind) (e : State) (h : ℕ)
@@ -100,8 +91,7 @@ module _ (g : GridStruct) (made : IsMade g) (start table : List ℕ) (budget pla
       ∙ length-up_from (first_point_of kind) (suc (length e.order) - first_point_of kind)
 
 -- where a pass finished is the answer, and can be announced
-module _ (g : GridStruct) (made : IsMade g) (start table : List ℕ) (budget : ℕ) (round : Round) (held : Held)
-    (long : length held.order ≡ 16) where
+module _ (g : GridStruct) (made : IsMade g) (start table : List ℕ) (budget : ℕ) (round : Round) (held : Held) where
   abbrev pub FinishedBy : Finish → Type 0
   FinishedBy = Finished (problem_from g start table) budget round held
 
@@ -110,7 +100,7 @@ module _ (g : GridStruct) (made : IsMade g) (start table : List ℕ) (budget : �
   finish_told (Ended kind places h s read) A =
       let e = state_of round held s in
       let n = number g made start table budget places kind e h A in
-      let q = counted held.order s.count long A.points.few in
+      let q = counted held.order s.count held.order_long A.points.few in
       rw (A.is, n, q)
   finish_told (UnknownLabel places position) is = rw is
   finish_told Spent is = rw is
@@ -138,6 +128,6 @@ module _ (g : GridStruct) (made : IsMade g) (start table : List ℕ) (budget : �
             low = A.low;
             fits = room g made start table budget places kind e h A n fits;
           };
-          many = counted held.order s.count long A.points.few;
+          many = counted held.order s.count held.order_long A.points.few;
         };
   }

@@ -15,13 +15,13 @@ use Rattle.grid_points.specs.Grid.{at}
 use Rattle.combinatorics.proofs.EditsOfArrays.{counted}
 use Rattle.rules.proofs.FirstMet.{entry}
 use Rattle.rules.specs.Mask.{bit, with_index, without_index}
-use Rattle.moves.specs.Held.{state_of}
+use Rattle.moves.specs.Held.{state_of, state_with}
 use Rattle.rules.specs.Ready.{tested_before, ReadyFirst, ReadyLast, ReadyLeave, ReadyGrow, label_in, Ready}
 use Rattle.rules.specs.Moves.{State, After, goes, ends_at_place, ends_at_facet, mark_label, first_outside, source_in}
 use Rattle.rules.specs.declared.Round.{Round}
 use Rattle.rules.specs.Moves.{first_outside_or_zero, is_filled, shifted, changed_before, shrink, joined, grow, leave_first}
 use Rattle.rules.specs.Moves.{leave_middle, leave_last, leave, make_move}
-use Rattle.moves.specs.declared.Held.{Held}
+use Rattle.moves.specs.declared.holding.Held.{Held}
 use Rattle.moves.specs.declared.Status.{Status}
 
 -- states that agree in what a move changes
@@ -61,8 +61,7 @@ pub shrinks : (round : Round) (held : Held) (order' marks' : List ℕ) (s : Stat
     → take (s.count + 1 - 1) marks' ≡ remove_at i (take (s.count + 1) held.marks)
     → active ≡ found (h + 1) 16 (map mark_label (take s.count marks')) → T ≡ without_index s.t h
     → U ≡ cond into_u (with_index s.u h) s.u → rule ≡ cond into_u 6 7
-    → state_of round
-    (record { first = held.first; coefficients = held.coefficients; order = order'; marks = marks' })
+    → state_with round held.first held.coefficients order' marks'
     (record { rule = rule; count = s.count - 1; t = T; u = U; active = active })
     ≡ shrink (state_of round held s) i e into_u
 unfolding shrink
@@ -234,8 +233,7 @@ module _ (s : State) where
     label-joins e = rw (lt-ltb s.rule 6 read, ← at_label, ← at_h, e)
 
 -- the mark of the point that came in, among those held
-module _ (round : Round) (held : Held) (s : Status) (long : length held.order ≡ 16)
-    (r : Ready (state_of round held s)) (read : s.rule < 6) where
+module _ (round : Round) (held : Held) (s : Status) (r : Ready (state_of round held s)) (read : s.rule < 6) where
   few : length (take s.count held.order) ≤ 15
   few = ⊎_elim
       (λ e. (r.leaves read e).few)
@@ -243,10 +241,10 @@ module _ (round : Round) (held : Held) (s : Status) (long : length held.order �
       (true_or_false (bit s.t (mark_label (at (take (suc s.count) held.marks) s.active) - 1)))
 
   pub count_low : s.count ≤ 15
-  count_low = omega (arith, few, counted held.order s.count long few)
+  count_low = omega (arith, few, counted held.order s.count held.order_long few)
 
   pub active-low : s.active ≤ s.count
-  active-low = omega (arith, r.active, counted held.order s.count long few)
+  active-low = omega (arith, r.active, counted held.order s.count held.order_long few)
 
   pub mark-held : at held.marks s.active ≡ at (take (suc s.count) held.marks) s.active
   mark-held = entry held.marks (suc s.count) s.active (at held.marks s.active) (omega (arith, active-low)) refl

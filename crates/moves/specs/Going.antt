@@ -5,7 +5,7 @@ use Rattle.grid_points.specs.Grid.{at}
 use Rattle.rules.specs.Ready.{IndicesBelow, tested_before}
 use Rattle.rules.specs.Moves.{shifted, changed_before}
 use Rattle.rules.specs.declared.Round.{Round}
-use Rattle.moves.specs.declared.Held.{Held}
+use Rattle.moves.specs.declared.holding.Held.{Held}
 
 -- n steps at the front of the order, with their marks, can move on by a step at h that takes from b
 pub record CanGo (round : Round) (n h b : ℕ) : Type 0 where

@@ -1,33 +1,44 @@
 -- The state that a run holds before a call and after it: what the contracts of this crate say. Assumes nothing.
-use Rattle.std.specs.Prelude.{List, ◌≡◌, ℕ, suc, ◌-◌, ◌≤◌, ◌<◌, take}
+use Rattle.std.specs.Prelude.{List, ◌≡◌, ℕ, suc, ◌-◌, ◌≤◌, ◌<◌, replicate, take}
+use Rattle.combinatorics.specs.Front.{front}
 use Rattle.grid_points.specs.Grid.{at}
 use Rattle.rules.specs.Ready.{IndicesBelow, RoundBelow, Ready, ReadyGrow}
 use Rattle.rules.specs.Moves.{State, After, goes, ends_at_place, ends_at_facet, source_in}
 use Rattle.rules.specs.declared.Round.{Round}
-use Rattle.moves.specs.declared.Held.{Held}
+use Rattle.moves.specs.declared.holding.Held.{Held}
 use Rattle.moves.specs.declared.Outcome.{Outcome}
 use Rattle.moves.specs.declared.Outcome.TheVariants.{Moved, PlaceEnd, FacetEnd}
 use Rattle.moves.specs.declared.Status.{Status}
 
--- the state that a run holds, with the ways round the blocks and a status
-abbrev pub state_of : Round → Held → Status → State
-state_of round held s = record {
+-- the state that these numbers and a status hold, with the ways round the blocks
+abbrev pub state_with : Round → List ℕ → List ℕ → List ℕ → List ℕ → Status → State
+state_with round first coefficients order marks s = record {
   round = round;
-  first = held.first;
-  coefficients = held.coefficients;
-  order = take s.count held.order;
-  marks = take (suc s.count) held.marks;
+  first = first;
+  coefficients = coefficients;
+  order = take s.count order;
+  marks = take (suc s.count) marks;
   T = s.t;
   U = s.u;
   active = s.active;
   rule = s.rule;
 }
 
+abbrev pub state_of : Round → Held → Status → State
+state_of round held s = state_with round held.first held.coefficients held.order held.marks s
+
 -- what a move has given; at an end the status is that of before
 abbrev pub answered : Round → Held → Status → Outcome → After
 answered round held s (Moved r) = goes (state_of round held r)
 answered round held s (PlaceEnd h) = ends_at_place (state_of round held s) h
 answered round held s (FacetEnd h) = ends_at_facet (state_of round held s) h
+
+-- {v} is held, whose point has the first m numbers of the start
+abbrev pub IsAt : List ℕ → ℕ → Held → Type 0
+IsAt start m held =
+    (held.first ≡ front (take m start) (replicate 16 0))
+    × (held.coefficients ≡ replicate 16 0)
+    × (held.marks ≡ replicate 16 0)
 
 -- what every function asks that makes a point leave
 pub record Sound (held : Held) (s : Status) : Type 0 where

@@ -2,14 +2,12 @@
 // which show what it asks.
 #![tactic(auto)]
 
-ghost use Rattle.std.specs.Prelude.{◌≡◌, ◌≤◌, replicate, take, length};
-ghost use Rattle.combinatorics.specs.Front.{front};
-
 mod going;
+mod holding;
 mod leaving;
 mod points;
 
-use arrays::padded;
+pub use holding::Held;
 pub use points::advance;
 
 // What the next move looks at, beside the numbers that are held. T and U are masks of 16 indices.
@@ -25,16 +23,6 @@ pub struct Status {
     pub active: usize,
 }
 
-// What a run holds of a place: its first point, that point's coefficient list, the indices of T in the order in which
-// each point goes to the next, and a mark for each point.
-#[derive(Clone, Copy)]
-pub struct Held {
-    pub first: [u16; 16],
-    pub coefficients: [u16; 16],
-    pub order: [u32; 16],
-    pub marks: [u32; 16],
-}
-
 // What a move gives: the status at the next place, or an end, with an index of the block for which the simplex is
 // complete. At an end nothing that is held has changed.
 #[derive(Clone, Copy)]
@@ -42,24 +30,4 @@ pub enum Outcome {
     Moved(Status),
     PlaceEnd(usize),
     FacetEnd(usize),
-}
-
-impl Held {
-    // {v}: its one point has the first m numbers given, no coefficient and no mark yet.
-    pub fn at(start: &[u16], m: usize) -> Held
-        requires { (m ≤ length start.now) × (m ≤ 16) }
-        ensures { result ≡ record {
-          first = front (take m start.now) (replicate 16 0);
-          coefficients = replicate 16 0;
-          order = replicate 16 0;
-          marks = replicate 16 0;
-        } }
-    {
-        Held {
-            first: padded(start, m),
-            coefficients: [0; 16],
-            order: [0; 16],
-            marks: [0; 16],
-        }
-    }
 }

@@ -13,7 +13,7 @@ use Rattle.grid.specs.declared.Grid.{Grid as GridStruct}
 use Rattle.marks.specs.Reading.{CanFind, table_problem}
 use Rattle.moves.specs.Held.{answered, state_of}
 use Rattle.end_kinds.specs.declared.Kind.TheVariants.{Facet as facet_end, Place as place_end}
-use Rattle.moves.specs.declared.Held.{Held}
+use Rattle.moves.specs.declared.holding.Held.{Held}
 use Rattle.moves.specs.declared.Outcome.{Outcome}
 use Rattle.moves.specs.declared.Outcome.TheVariants.{FacetEnd, Moved, PlaceEnd}
 use Rattle.moves.specs.declared.Status.{Status}
@@ -42,11 +42,11 @@ pub record Passing (p : Problem) (visited : ℕ) (a : Stand) (s : State) : Type 
 
 -- at {v}
 pub passes-first : (g : GridStruct) → IsMade g → (held : Held) (table : List ℕ) → Accepted (problem_in g held.first table)
-    → {round : Round} → IsRound (shape g) round → length held.first ≡ 16 → held.coefficients ≡ replicate 16 0
+    → {round : Round} → IsRound (shape g) round → held.coefficients ≡ replicate 16 0
     → held.marks ≡ replicate 16 0 → (stand : Stand) → HasBegun held.first g.indices stand
     → Passing (problem_in g held.first table) 0 stand (state_of round held stand.status)
-passes-first g made held table ok N long c m stand B = record {
-  here = rw (c, m) (begins g made held.first table ok N long held.order stand.status B.status);
+passes-first g made held table ok N c m stand B = record {
+  here = rw (c, m) (begins g made held.first table ok N held.first_long held.order stand.status B.status);
   read = begins-reading (problem_in g held.first table) stand.labels 1 B.labels refl;
 }
 
@@ -65,7 +65,6 @@ pub record Place : Type 0 where
   pub passing : Passing (problem_in g start table) visited stand (state_of round held stand.status)
   pub more : visited < budget
   pub below : RoundBelow round
-  pub long : length held.order ≡ 16
   pub tails : List ℕ
   pub sums : (k : ℕ) → k < g.indices → at tails k ≡ sum (map (at start) (up_from k (g.indices - k)))
 
@@ -93,7 +92,7 @@ module _ (P : Place) where
   can_look r = record {
     reads = visited.reads r;
     marks = visited.marks r;
-    many = counted P.held.order a.status.count P.long (visited.reads r).point.few;
+    many = counted P.held.order a.status.count P.held.order_long (visited.reads r).point.few;
   }
 
   pub has_looked : (held : Held) {x : Unit}

@@ -10,8 +10,8 @@ use lib.Seq.{take-set-lt}
 use native.Mathlib.Omega.{arith}
 use Rattle.combinatorics.proofs.Basics.{before_or_not}
 use Rattle.path_pass.specs.Finish.{IsKnown}
-use Rattle.moves.specs.Held.{state_of}
-use Rattle.moves.specs.declared.Held.{Held}
+use Rattle.moves.specs.Held.{state_of, state_with}
+use Rattle.moves.specs.declared.holding.Held.{Held}
 use Rattle.moves.specs.declared.Status.{Status}
 use Rattle.place.specs.Problem.{Problem}
 use Rattle.rules.specs.Read.{mark_of, point_in, read}
@@ -26,20 +26,12 @@ module _ (p : Problem) (round : Round) (held : Held) (s : Status) where
   abbrev here : State
   here = state_of round held s
 
-  abbrev with : ℕ → Held
-  with m = record {
-    first = held.first;
-    coefficients = held.coefficients;
-    order = held.order;
-    marks = set held.marks s.active m;
-  }
-
   pub looked_none : 6 ≤ s.rule → here ≡ read p here
   unfolding read
   looked_none r = rw (le-ltb s.rule 6 r)
 
   pub looked_some : (m : ℕ) → s.rule < 6 → s.active ≤ s.count → m ≡ mark_of p (point_in p here s.active)
-      → state_of round (with m) s ≡ read p here
+      → state_with round held.first held.coefficients held.order (set held.marks s.active m) s ≡ read p here
   unfolding read with_mark
   looked_some m r low e = rw (
     e,

@@ -37,13 +37,13 @@ use Rattle.path_laws.specs.Demand.{Accepted, place_at}
 use Rattle.rules.proofs.Follow.{At, EndsAt, NextAt, next_place, place_ends, facet_ends, at_begin, at-below, at-beside}
 use Rattle.rules.proofs.Follow.{at-exchanged, at_first, at_new, at_next, at_others, at_place, at_reads, at_ready}
 use Rattle.rules.proofs.Follow.{ends-answer}
-use Rattle.moves.specs.Held.{state_of}
+use Rattle.moves.specs.Held.{state_of, state_with}
 use Rattle.rules.specs.Mask.{bit}
 use Rattle.rules.specs.Read.{mark_of, point_in, points_from, read, Falling}
 use Rattle.rules.specs.Ready.{IsRound, RoundBelow}
 use Rattle.rules.specs.Moves.{After, State, mark, goes, ends_at_place, ends_at_facet, make_move}
 use Rattle.rules.specs.declared.Round.{Round}
-use Rattle.moves.specs.declared.Held.{Held}
+use Rattle.moves.specs.declared.holding.Held.{Held}
 use Rattle.moves.specs.declared.Status.{Status}
 use Rattle.marks.specs.Reading.{label_reading, table_problem, CanReadPoint, HasMarks}
 use Rattle.marks.specs.declared.Unknown.{Unknown}
@@ -94,9 +94,7 @@ HasRead p k labels = labels ≡ suc (came_in (path (filled_table p)).visited k)
 module _ (g : GridStruct) (made : IsMade g) (first table : List ℕ) (ok : Accepted (problem_in g first table)) where
   pub begins : {round : Round} → IsRound (shape g) round → length first ≡ 16 → (order : List ℕ) (s : Status)
       → IsBegun first g.indices s
-      → OnPath (problem_in g first table)
-      (state_of round
-      (record { first = first; coefficients = replicate 16 0; order = order; marks = replicate 16 0 }) s) 0
+      → OnPath (problem_in g first table) (state_with round first (replicate 16 0) order (replicate 16 0) s) 0
   begins N size order s B = (
     rw (B.rule, B.none, B.empty, B.active)
         (at_begin (filled_full (accepted-table ok)) N first s.u size (λ k l. sym (start-at k l)) mask_at),

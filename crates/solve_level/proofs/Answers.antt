@@ -23,8 +23,8 @@ use Rattle.grid_points.proofs.Points.{point-long}
 use Rattle.grid_points.specs.Grid.{Grid, at, block_of, dimension, lent, next, num_indices, previous, size}
 use Rattle.solve_pass.specs.Asked.{CanPassGame}
 use Rattle.game_weighed.specs.Levels.{Rests}
-use Rattle.moves.specs.Held.{state_of}
-use Rattle.moves.specs.declared.Held.{Held}
+use Rattle.moves.specs.Held.{IsAt, state_of}
+use Rattle.moves.specs.declared.holding.Held.{Held}
 use Rattle.path_pass.specs.Finish.{Announced, Finished, first_point_of}
 use Rattle.path_pass.specs.declared.Finish.{Finish}
 use Rattle.path_pass.specs.declared.Finish.TheVariants.{Ended, Spent, Unknown as UnknownLabel}
@@ -58,21 +58,13 @@ module _ {unit : GridStruct} {divisions losses start buffer : List ℕ}
       ap (λ z. length z.sizes) C.made.made ∙ front_length (shape unit).sizes (replicate 6 0) a.few_blocks in
       omega (arith, sizes, (blocks-range unit C.made).1)
 
-  -- what is held at {v}
-  abbrev pub begins : Held
-  begins = record {
-    first = front (take unit.indices start) (replicate 16 0);
-    coefficients = replicate 16 0;
-    order = replicate 16 0;
-    marks = replicate 16 0;
-  }
-
-  start_taken : take unit.indices begins.first ≡ start
-  start_taken =
+  start_taken : {held : Held} → held.first ≡ front (take unit.indices start) (replicate 16 0)
+      → take unit.indices held.first ≡ start
+  start_taken e =
       let f : take unit.indices start ≡ start = rw (← start-long) (take-length start) in
       let h : take unit.indices (front start (replicate 16 0)) ≡ start =
       rw (← start-long) (front_taken start (replicate 16 0)) in
-      rw (f, h)
+      rw (e, f, h)
 
   -- the ways round the blocks do not depend on the divisions
   round-alike : {round : Round} → IsRound (shape unit) round → IsRound g round
@@ -80,9 +72,9 @@ module _ {unit : GridStruct} {divisions losses start buffer : List ℕ}
   round-alike N = record { backward = N.backward; forward = N.forward; size = N.size }
 
   pub can_pass : (rests : List ℕ) → Rests (lent (shape unit).sizes []) rests → (round : Round)
-      → IsRound (shape unit) round → RoundBelow round → {held : Held} → held ≡ begins
+      → IsRound (shape unit) round → RoundBelow round → (held : Held) → IsAt start unit.indices held
       → CanPassGame g unit.firsts unit.block rests losses unit.indices round held
-  can_pass rests resting round is below e = rw e (record {
+  can_pass rests resting round is below held A = record {
     game = λ y on. record {
       grid = C.grid;
       first = λ j l. made-first unit C.made j (omega (arith, made-blocks unit C.made));
@@ -95,22 +87,22 @@ module _ {unit : GridStruct} {divisions losses start buffer : List ℕ}
     many = made-indices unit C.made;
     is_round = round-alike is;
     below = below;
-    start = rw start_taken C.on_grid;
-    no_coefficients = refl;
-    no_marks = refl;
-  })
+    start = rw (start_taken {held} A.0) C.on_grid;
+    no_coefficients = A.1.0;
+    no_marks = A.1.1;
+  }
 
-  module _ (budget : ℕ) (round : Round) (last : Held) (long : length last.order ≡ 16) where
+  module _ (budget : ℕ) (round : Round) (last : Held) where
     abbrev pub FinishedBy : Finish → Type 0
     FinishedBy = Finished p budget round last
 
-    pub finished_from : {held : Held} → held ≡ begins → (f : Finish)
+    pub finished_from : (held : Held) → IsAt start unit.indices held → (f : Finish)
         → Finished (run_problem unit divisions losses (take unit.indices held.first)) budget round last f
         → FinishedBy f
-    finished_from e f F =
+    finished_from held A f F =
         subst
         (λ (v : List ℕ). Finished (run_problem unit divisions losses v) budget round last f)
-        (ap (λ (h : Held). take unit.indices h.first) e ∙ start_taken) F
+        (start_taken {held} A.0) F
 
     module _ (kind : Kind) (places h read : ℕ) (e : State)
         (A : Announced p budget kind (first_point_of kind) e h places read) where
@@ -127,7 +119,7 @@ module _ {unit : GridStruct} {divisions losses start buffer : List ℕ}
 
     pub finish_told : (f : Finish) → FinishedBy f → case_at unit budget f ≡ case_of (answer p budget)
     finish_told (Ended kind places h s read) A =
-        rw (A.is, number kind places h read (state_of round last s) A, counted last.order s.count long A.points.few)
+        rw (A.is, number kind places h read (state_of round last s) A, counted last.order s.count last.order_long A.points.few)
     finish_told (UnknownLabel places position) is = rw is
     finish_told Spent is = rw is
 
@@ -153,6 +145,6 @@ module _ {unit : GridStruct} {divisions losses start buffer : List ℕ}
               low = A.low;
               fits = fits kind places h read (state_of round last s) A;
             };
-            many = counted last.order s.count long A.points.few;
+            many = counted last.order s.count last.order_long A.points.few;
           };
     }

@@ -17,7 +17,7 @@ use Rattle.solve_pass.proofs.Places.{BareAt, at-facet-end, at-place-end, can_vis
 use Rattle.solve_pass.specs.Bare.{bare_after, labelled}
 use Rattle.solve_pass.specs.Asked.{CanPassGame, CanVisitGame}
 use Rattle.moves.specs.Held.{state_of}
-use Rattle.moves.specs.declared.Held.{Held}
+use Rattle.moves.specs.declared.holding.Held.{Held}
 use Rattle.moves.specs.declared.Status.{Status}
 use Rattle.path_laws.proofs.Filled.{FullyLabelled}
 use Rattle.path_laws.proofs.LabelsRead.{came_few, came_next, came_none}
@@ -70,10 +70,10 @@ module _ {g : Grid} {firsts owners rests losses : List ℕ} {indices : ℕ} {rou
   start-at : (k : ℕ) → k < num_indices g → at (take indices held.first) k ≡ at held.first k
   start-at k l = get_or-take indices held.first k 0 (omega (arith, w.many))
 
-  pub begins : length held.first ≡ 16 → (s : Status) → IsBegun held.first indices s → BareAt p (state_of round held s) 0
-  begins long s B = record {
+  pub begins : (s : Status) → IsBegun held.first indices s → BareAt p (state_of round held s) 0
+  begins s B = record {
     full = begun round held.first s.u;
-    at = at_begin (game_full w) w.is_round held.first s.u long (λ k l. sym (start-at k l)) mask_at;
+    at = at_begin (game_full w) w.is_round held.first s.u held.first_long (λ k l. sym (start-at k l)) mask_at;
     is = rw (w.no_coefficients, w.no_marks, B.rule, B.none, B.empty, B.active);
   }
     where

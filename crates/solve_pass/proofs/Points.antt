@@ -11,8 +11,8 @@ use Rattle.grid_points.specs.Grid.{Grid, num_indices}
 use Rattle.solve_pass.specs.Bare.{labelled}
 use Rattle.solve_pass.specs.Asked.{CanLabel}
 use Rattle.game_losses.specs.Game.{game_label}
-use Rattle.moves.specs.Held.{state_of}
-use Rattle.moves.specs.declared.Held.{Held}
+use Rattle.moves.specs.Held.{state_of, state_with}
+use Rattle.moves.specs.declared.holding.Held.{Held}
 use Rattle.moves.specs.declared.Status.{Status}
 use Rattle.rules.proofs.PointsAfter.{after_taken, few-ready, length-after}
 use Rattle.rules.specs.Read.{point_after, point_on, CanCompute, ReadyPoint}
@@ -45,13 +45,7 @@ labelled-none g losses s l = rw (le-ltb s.rule 6 l)
 pub labelled-some : (g : Grid) (losses : List ℕ) (round : Round) (held : Held) (s : Status)
     (m : ℕ) → s.rule < 6 → CanCompute (state_of round held s) s.active
     → m ≡ game_label g losses (point_on g (state_of round held s) s.active)
-    → state_of round
-    (record {
-      first = held.first;
-      coefficients = held.coefficients;
-      order = held.order;
-      marks = set held.marks s.active m;
-    }) s
+    → state_with round held.first held.coefficients held.order (set held.marks s.active m) s
     ≡ labelled g losses (state_of round held s)
 unfolding labelled with_mark
 labelled-some g losses round held s m r R e = rw (

@@ -3,7 +3,7 @@
 // a game, which shows what it asks.
 #![tactic(auto)]
 
-ghost use Rattle.std.specs.Prelude.{◌≡◌, ◌<◌, length, take};
+ghost use Rattle.std.specs.Prelude.{◌≡◌, ◌<◌, take};
 ghost use Rattle.grid_points.specs.Grid.{lent};
 ghost use Rattle.solve_pass.specs.Bare.{labelled};
 ghost use Rattle.solve_pass.specs.Asked.{CanLabel, CanPassGame, CanVisitGame};
@@ -68,9 +68,8 @@ fn visit(
 ) -> Outcome
     requires { CanVisitGame (lent sizes.now divisions.now) firsts.now owners.now rests.now losses.now indices
         (state_of round.now held.old s) }
-    ensures gives { let a = state_of round.now held.old s in
+    ensures { let a = state_of round.now held.old s in
         answered round.now held.new s result ≡ make_move (labelled (lent sizes.now divisions.now) losses.now a) }
-    ensures long { length held.new.order ≡ 16 }
 {
     if s.rule < 6 {
         let label = label_in(

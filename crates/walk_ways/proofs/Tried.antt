@@ -5,7 +5,7 @@ use Prim.Native.Nat.{ℕ, zero, suc, ◌+◌, ◌≤◌}
 use lib.ListN.{length, take, length-take}
 use native.Mathlib.Omega.{arith}
 use Rattle.moves.specs.Held.{answered, state_of}
-use Rattle.moves.specs.declared.Held.{Held}
+use Rattle.moves.specs.declared.holding.Held.{Held}
 use Rattle.moves.specs.declared.Outcome.{Outcome}
 use Rattle.moves.specs.declared.Outcome.TheVariants.{FacetEnd, Moved, PlaceEnd}
 use Rattle.moves.specs.declared.Status.{Status}
@@ -23,7 +23,7 @@ abbrev made : Leads → Place → Move
 made leads place = record { leads = leads; place = place }
 
 module _ (m : ℕ) {a : State} {round : Round} {held : Held} {s : Status} {o : Outcome}
-    (H : answered round held s o ≡ make_move a) (long-order : length held.order ≡ 16) (C : CanTry a) where
+    (H : answered round held s o ≡ make_move a) (C : CanTry a) where
   module _ {r : Status} (is : o ≡ Moved r) where
     after : goes (state_of round held r) ≡ make_move a
     after = rw is at H
@@ -31,10 +31,10 @@ module _ (m : ℕ) {a : State} {round : Round} {held : Held} {s : Status} {o : O
     pub few : (r.count ≤ 15) × (length held.first ≡ 16)
     few =
         let w = C.short (state_of round held r) (sym after) in
-        (omega (arith, w.0, length-take r.count held.order, long-order), w.1)
+        (omega (arith, w.0, length-take r.count held.order, held.order_long), w.1)
 
     long : length (take r.count held.order) ≡ r.count
-    long = length-take r.count held.order ∙ omega (arith, few.0, long-order)
+    long = length-take r.count held.order ∙ omega (arith, few.0, held.order_long)
 
     pub way_moved : made (Onto r.rule) (kept_as m held.first held.order r.count)
         ≡ way_in m (make_move a)

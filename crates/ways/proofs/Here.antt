@@ -13,7 +13,7 @@ use Rattle.combinatorics.proofs.EditsOfArrays.{counted}
 use Rattle.combinatorics.specs.Edits.{found}
 use Rattle.moves.proofs.Cases.{Leaving, label-joins, leaving-leaves, leaving-ready}
 use Rattle.moves.specs.Held.{state_of}
-use Rattle.moves.specs.declared.Held.{Held}
+use Rattle.moves.specs.declared.holding.Held.{Held}
 use Rattle.moves.specs.declared.Status.{Status}
 use Rattle.rules.specs.Mask.{bit}
 use Rattle.rules.specs.Read.{position_at}
@@ -101,8 +101,7 @@ module _ (round : Round) (held : Held) (s : Status) where
   same-gone Nothing = refl
 
 -- a state that is ready for its move has few points, and tells the way on
-module _ (round : Round) (held : Held) (s : Status) (long : length held.order ≡ 16)
-    (r : Ready (state_of round held s)) where
+module _ (round : Round) (held : Held) (s : Status) (r : Ready (state_of round held s)) where
   few-steps : length (take s.count held.order) ≤ 15
   few-steps =
       ⊎_elim
@@ -111,7 +110,7 @@ module _ (round : Round) (held : Held) (s : Status) (long : length held.order �
       (λ (l : 6 ≤ s.rule). (r.goes_on l).few) (before_or_not s.rule 6)
 
   steps-counted : length (take s.count held.order) ≡ s.count
-  steps-counted = counted held.order s.count long few-steps
+  steps-counted = counted held.order s.count held.order_long few-steps
 
   pub can_tell : CanTell (held_marks held.marks s) s
   can_tell = record {

@@ -3,7 +3,7 @@
 // what it asks.
 #![tactic(auto)]
 
-ghost use Rattle.std.specs.Prelude.{◌≡◌, ℕ, ◌≤◌, length};
+ghost use Rattle.std.specs.Prelude.{◌≡◌, ℕ, ◌≤◌};
 ghost use Rattle.moves.specs.Held.{CanStep, Sound, answered, state_of};
 ghost use Rattle.rules.specs.Ready.{RoundBelow};
 ghost use Rattle.rules.specs.Moves.{make_move};
@@ -58,8 +58,7 @@ pub fn gone_by(way: Way, marks: &[u32; 16], s: Status) -> usize
 pub fn moved_by(held: &mut Held, round: &Round, s: Status, way: Way) -> Outcome
     requires sound { RoundBelow round.now × Sound held.old s }
     requires can_move { CanMove (state_of round.now held.old s) way }
-    ensures gives { answered round.now held.new s result ≡ way_after (state_of round.now held.old s) way }
-    ensures long { length held.new.order ≡ 16 }
+    ensures { answered round.now held.new s result ≡ way_after (state_of round.now held.old s) way }
 {
     match way {
         Way::Leaves(i) => held.leave(round, s, i),
@@ -71,8 +70,7 @@ pub fn moved_by(held: &mut Held, round: &Round, s: Status, way: Way) -> Outcome
 // The move from a place whose points all have their marks, by the labels.
 pub fn make_move(held: &mut Held, round: &Round, s: Status) -> Outcome
     requires { CanStep (state_of round.now held.old s) }
-    ensures gives { answered round.now held.new s result ≡ make_move (state_of round.now held.old s) }
-    ensures long { length held.new.order ≡ 16 }
+    ensures { answered round.now held.new s result ≡ make_move (state_of round.now held.old s) }
 {
     let way = way_here(&held.marks, s);
     moved_by(held, round, s, way)

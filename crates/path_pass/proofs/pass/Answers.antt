@@ -1,5 +1,5 @@
 -- `pass` meets its contract. Assumes nothing.
-use Rattle.std.proofs.Common.{◌≡◌, refl, sym, ap, ◌∙◌, rules, arith}
+use Rattle.std.proofs.Common.{◌≡◌, refl, sym, ap, ◌∙◌, arith}
 use Rattle.grid.proofs.Fields.{indices-few}
 use Rattle.marks.specs.Reading.{table_problem}
 use Rattle.moves.specs.Held.{answered}
@@ -22,11 +22,8 @@ pub loop-visited-init : goal.loop-visited-init
 loop-visited-init c =
     let a = c.args in
     let w = c.requires in
-    (
-      passes-first a.g w.readable.made a.held.now a.table.now w.accepted w.is_round (search rules) w.no_coefficients
-          w.no_marks c.begun-at.result c.begun-at.ensures,
-      search rules,
-    )
+    passes-first a.g w.readable.made a.held.now a.table.now w.accepted w.is_round w.no_coefficients w.no_marks
+    c.begun-at.result c.begun-at.ensures
 
 abbrev place : In-loop-visited → Place
 place c =
@@ -45,10 +42,9 @@ place c =
       budget = a.budget;
       visited = l.visited;
       stand = l.at;
-      passing = l.invariant.0;
+      passing = l.invariant;
       more = c.loop-visited-test.true;
       below = w.below;
-      long = l.invariant.1;
       tails = tails.result;
       sums = tails.ensures;
     }
@@ -77,7 +73,7 @@ steps c o e =
     let R = told (goal.at.After-make_move c).In_default in record {
       known = R.known;
       moves = ap (λ (x : Outcome). answered (here c).round c.make_move.new.held (here c).stand.status x) (sym e)
-          ∙ c.make_move.ensures.gives ∙ ap make_move R.is;
+          ∙ c.make_move.ensures ∙ ap make_move R.is;
     }
 
 pub on-at-requires : goal.on-at-requires
@@ -97,11 +93,11 @@ returns-in-FacetEnd c =
 pub loop-visited-preserved : goal.loop-visited-preserved
 loop-visited-preserved c =
     let at = (goal.at.loop-visited-preserved c).After-make_move in
-    (passes_on (here at) (steps at _ c.in-Moved.is) c.on-at.ensures, c.make_move.ensures.long)
+    passes_on (here at) (steps at _ c.in-Moved.is) c.on-at.ensures
 
 pub returns : goal.returns
 returns c =
     let a = c.args in
     let w = c.requires in
     let l = c.loop-visited in
-    spends a.g w.readable.made a.held.now.first a.table.now w.accepted _ l.visited l.invariant.0.here a.budget (omega arith)
+    spends a.g w.readable.made a.held.now.first a.table.now w.accepted _ l.visited l.invariant.here a.budget (omega arith)

@@ -1,5 +1,5 @@
 -- `run` meets its contract: the pass from the start, and its finish announced. Assumes nothing.
-use Rattle.std.proofs.Common.{List, sym, ap, ◌∙◌, ℕ, rules}
+use Rattle.std.proofs.Common.{List, sym, ap, ◌∙◌, ℕ}
 use lib.Seq.{length-take-le}
 use Rattle.combinatorics.specs.Front.{front}
 use Rattle.solve_level.proofs.Answers.{FinishedBy, can_announce, can_pad, can_pass, finish_told, finish_written}
@@ -8,11 +8,11 @@ use Rattle.solve_level.proofs.run.Goals as goal
 use Rattle.solve_level.proofs.run.Goals.{After-pass-finish}
 
 finished : (c : After-pass-finish)
-    → FinishedBy c.requires c.args.budget c.round_of-round.result c.pass-finish.new.held (search rules)
+    → FinishedBy c.requires c.args.budget c.round_of-round.result c.pass-finish.new.held
     c.pass-finish.result
 finished c =
-    finished_from c.requires c.args.budget c.round_of-round.result c.pass-finish.new.held (search rules)
-    c.at-held.ensures c.pass-finish.result c.pass-finish.ensures
+    finished_from c.requires c.args.budget c.round_of-round.result c.pass-finish.new.held
+    c.at-held.result c.at-held.ensures c.pass-finish.result c.pass-finish.ensures
 
 pub at-held-requires : goal.at-held-requires
 at-held-requires c = can_pad c.requires
@@ -33,13 +33,13 @@ pub pass-finish-requires : goal.pass-finish-requires
 pass-finish-requires c =
     let lengths = c.rests-lengths in
     let round = c.round_of-round in
-    can_pass c.requires lengths.result lengths.ensures round.result round.ensures.0 round.ensures.1.0 c.at-held.ensures
+    can_pass c.requires lengths.result lengths.ensures round.result round.ensures.0 round.ensures.1.0 c.at-held.result c.at-held.ensures
 
 pub announce-requires : goal.announce-requires
 announce-requires c =
     let here = (goal.at.announce-requires c).After-pass-finish in
     let round = c.round_of-round in
-    can_announce c.requires c.args.budget round.result c.pass-finish.new.held (search rules) round.ensures.1.0
+    can_announce c.requires c.args.budget round.result c.pass-finish.new.held round.ensures.1.0
     c.pass-finish.result (finished here)
 
 pub returns : goal.returns
@@ -51,9 +51,9 @@ returns c =
     let said = c.announce.ensures in
     record {
       result_value = said.value
-          ∙ finish_told c.requires a.budget round held (search rules) c.pass-finish.result end;
+          ∙ finish_told c.requires a.budget round held c.pass-finish.result end;
       answer_after = said.answer_after
           ∙ ap
           (λ (x : List ℕ). front x a.answer.now)
-          (finish_written c.requires a.budget round held (search rules) c.pass-finish.result end);
+          (finish_written c.requires a.budget round held c.pass-finish.result end);
     }

@@ -35,7 +35,4 @@ make_move-requires c =
     record { below = c.requires.below; ready = subst Ready (sym w) c.requires.ready }
 
 pub returns : goal.returns
-returns c = record {
-  gives = c.make_move.ensures.gives ∙ ap make_move (worked-out (goal.at.returns c).Joined-s-lt6);
-  long = c.make_move.ensures.long;
-}
+returns c = c.make_move.ensures ∙ ap make_move (worked-out (goal.at.returns c).Joined-s-lt6)

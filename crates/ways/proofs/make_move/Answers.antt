@@ -1,5 +1,5 @@
 -- `make_move` meets its contract: the move by the way that the labels tell is the step. Assumes nothing.
-use Rattle.std.proofs.Common.{◌≡◌, sym, ap, ◌∙◌, subst, rules}
+use Rattle.std.proofs.Common.{◌≡◌, sym, ap, ◌∙◌, subst}
 use Rattle.moves.specs.Held.{state_of}
 use Rattle.rules.specs.Moves.{State}
 use Rattle.ways.specs.Ways.{CanMove, way_after, way_here}
@@ -13,7 +13,7 @@ place c = state_of c.args.round.now c.args.held.now c.args.s
 
 pub way_here-way-requires : goal.way_here-way-requires
 way_here-way-requires c =
-    let a = c.args in can_tell a.round.now a.held.now a.s (search rules) c.requires.ready
+    let a = c.args in can_tell a.round.now a.held.now a.s c.requires.ready
 
 way-is : (c : After-way_here-way) → c.way_here-way.result ≡ way_here (place (goal.at.After-way_here-way c).Start)
 way-is c =
@@ -27,7 +27,7 @@ moved_by-requires c =
       sound = (
         c.requires.below,
         record {
-          few = (can_tell a.round.now a.held.now a.s (search rules) c.requires.ready).few;
+          few = (can_tell a.round.now a.held.now a.s c.requires.ready).few;
           order_below = c.requires.ready.order_below;
         },
       );
@@ -37,9 +37,6 @@ moved_by-requires c =
 pub returns : goal.returns
 returns c =
     let start = (goal.at.returns c).Start in
-    record {
-      gives = c.moved_by.ensures.gives
-          ∙ ap (way_after (place start)) (way-is (goal.at.returns c).After-way_here-way)
-          ∙ here-steps (place start);
-      long = c.moved_by.ensures.long;
-    }
+    c.moved_by.ensures
+    ∙ ap (way_after (place start)) (way-is (goal.at.returns c).After-way_here-way)
+    ∙ here-steps (place start)

@@ -8,6 +8,7 @@ use Rattle.arrays.proofs.lists.exchange.Goals as goal
 pub returns : goal.returns
 returns c =
     let a = c.args in
-    c.swap.ensures.after
+    let is = c.swap.ensures.after
     ∙ sym (swap_is a.a.now a.i (a.i + 1) 0 (omega arith) (omega arith))
-    ∙ rw add-one (swap_two a.i a.a.now (omega arith))
+    ∙ rw add-one (swap_two a.i a.a.now (omega arith)) in
+    (is, omega (arith, c.swap.ensures.len))

@@ -7,5 +7,5 @@ use Rattle.combinatorics.specs.Edits.{insert_at}
 use Rattle.arrays.proofs.lists.insert.Given as goal
 
 abbrev pub invariant-loop-k : goal.invariant-loop-k
-invariant-loop-k l = (l.at ≤ l.k) × (take (suc l.n) (set l.a l.k l.x) ≡ insert_at l.k l.x (take l.n l.initial.a))
+invariant-loop-k l = (l.at ≤ l.k) × (length l.a ≡ 16) × (take (suc l.n) (set l.a l.k l.x) ≡ insert_at l.k l.x (take l.n l.initial.a))
     × (drop (suc l.n) l.a ≡ drop (suc l.n) l.initial.a)

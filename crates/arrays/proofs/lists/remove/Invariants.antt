@@ -7,5 +7,5 @@ use Rattle.combinatorics.specs.Edits.{remove_at}
 use Rattle.arrays.proofs.lists.remove.Given as goal
 
 abbrev pub invariant-loop-k : goal.invariant-loop-k
-invariant-loop-k l = (remove_at l.k (take l.n l.a) ≡ remove_at l.at (take l.n l.initial.a))
+invariant-loop-k l = (length l.a ≡ 16) × (remove_at l.k (take l.n l.a) ≡ remove_at l.at (take l.n l.initial.a))
     × (drop (l.n - 1) l.a ≡ drop (l.n - 1) l.initial.a)

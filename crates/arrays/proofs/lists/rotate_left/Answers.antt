@@ -21,11 +21,12 @@ returns c =
       ← x,
     ) (rotate_left_lem l long) in
     let r = c.remove.new.a in
-    let more : drop 1 (drop (a.n - 1) r) ≡ drop 1 (drop (a.n - 1) a.a.now) = ap (drop 1) c.remove.ensures.1
+    let more : drop 1 (drop (a.n - 1) r) ≡ drop 1 (drop (a.n - 1) a.a.now) = ap (drop 1) c.remove.ensures.2
     in
     let one : a.n - 1 + 1 ≡ a.n = omega arith in
     let behind : drop a.n r ≡ drop a.n a.a.now =
     rw one at (sym (drop-drop 1 (a.n - 1) r) ∙ more ∙ drop-drop 1 (a.n - 1) a.a.now) in (
       rw n at made,
+      rw length-set (omega arith),
       drop-set-lt a.n r (a.n - 1) (get_or a.a.now 0 0) (omega arith) ∙ behind,
     )

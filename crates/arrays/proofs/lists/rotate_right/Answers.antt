@@ -15,6 +15,6 @@ returns c =
     let made : take (a.n - 1 + 1) c.insert.new.a ≡ rotate_right (take (suc (a.n - 1)) a.a.now) =
     c.insert.ensures.0 ∙ rotate_right_lem (a.n - 1) a.a.now (omega arith)
     in
-    let behind : drop (a.n - 1 + 1) c.insert.new.a ≡ drop (a.n - 1 + 1) a.a.now = c.insert.ensures.1 in
+    let behind : drop (a.n - 1 + 1) c.insert.new.a ≡ drop (a.n - 1 + 1) a.a.now = c.insert.ensures.2 in
     let one : a.n - 1 + 1 ≡ a.n = omega arith in
-    (rw (add-one, n) at made, rw one at behind)
+    (rw (add-one, n) at made, c.insert.ensures.1, rw one at behind)

@@ -1,6 +1,6 @@
 -- `joining::grow` meets its contract: the label joins T from U or from outside, or the place is an end.
 -- Assumes nothing.
-use Rattle.std.proofs.Common.{true, false, ◌≡◌, sym, ap, ◌∙◌, ℕ, take, rules, arith}
+use Rattle.std.proofs.Common.{true, false, ◌≡◌, sym, ap, ◌∙◌, ℕ, take, arith}
 use mathlib.Core.Logic.{inl, inr}
 use Rattle.combinatorics.proofs.EditsOfArrays.{counted, found-low}
 use Rattle.combinatorics.specs.Edits.{found}
@@ -14,13 +14,13 @@ use Rattle.ways.proofs.joining.grow.Goals as goal
 pub find-i-requires : goal.find-i-requires
 find-i-requires c =
     let a = c.args in
-    omega (arith, counted a.held.now.order a.s.count (search rules) c.requires.ready.few, c.requires.ready.few)
+    omega (arith, counted a.held.now.order a.s.count a.held.now.order_long c.requires.ready.few, c.requires.ready.few)
 
 pub join-requires : goal.join-requires
 join-requires c =
     let a = c.args in
     let steps = take a.s.count a.held.now.order in
-    let n = counted a.held.now.order a.s.count (search rules) c.requires.ready.few in
+    let n = counted a.held.now.order a.s.count a.held.now.order_long c.requires.ready.few in
     let is_in : bit a.s.u a.h ≡ true = sym c.has.ensures ∙ c.if-has.true in
     let low = found-low 0 c.first_outside-b.result 16 steps in
     record {
@@ -51,7 +51,7 @@ pub join-requires-2 : goal.join-requires-2
 join-requires-2 c =
     let a = c.args in
     let free : is_filled a.round.now a.s.t a.s.u a.h ≡ false = sym c.is_filled.ensures ∙ c.if-is_filled.false in
-    let n = counted a.held.now.order a.s.count (search rules) c.requires.ready.few in
+    let n = counted a.held.now.order a.s.count a.held.now.order_long c.requires.ready.few in
     record {
       entry = omega arith;
       room = omega (arith, c.requires.ready.room (inr free));
@@ -61,7 +61,7 @@ join-requires-2 c =
 pub returns : goal.returns
 returns c =
     let a = c.args in
-    let n = counted a.held.now.order a.s.count (search rules) c.requires.ready.few in
+    let n = counted a.held.now.order a.s.count a.held.now.order_long c.requires.ready.few in
     ap (λ (x : State). goes x) (c.join-2.ensures a.round.now)
     ∙ joins-from-outside (state_of a.round.now a.held.now a.s) a.h a.s.count
     (sym c.has.ensures ∙ c.if-has.false)

@@ -4,8 +4,8 @@ use lib.Seq.{length-take-le}
 use Rattle.moves.specs.Held.{state_of}
 use Rattle.rules.specs.Moves.{State, goes}
 use Rattle.moves.proofs.Cases.{same-state, first-ready, facet-end, U-gains, first-leaves}
-use Rattle.moves.proofs.Held.leave_first_at.Goals as goal
-use Rattle.moves.proofs.Held.leave_first_at.Goals.{Start}
+use Rattle.moves.proofs.holding.Held.leave_first_at.Goals as goal
+use Rattle.moves.proofs.holding.Held.leave_first_at.Goals.{Start}
 
 -- the state
 abbrev place : Start → State

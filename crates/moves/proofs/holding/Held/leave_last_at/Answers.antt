@@ -5,8 +5,8 @@ use Rattle.moves.specs.Held.{state_of}
 use Rattle.rules.specs.Mask.{bit}
 use Rattle.rules.specs.Moves.{State}
 use Rattle.moves.proofs.Cases.{T-loses, backward, last-leaves, last-ready, last-to-U, same-state}
-use Rattle.moves.proofs.Held.leave_last_at.Goals as goal
-use Rattle.moves.proofs.Held.leave_last_at.Goals.{Start, then-has, else-has}
+use Rattle.moves.proofs.holding.Held.leave_last_at.Goals as goal
+use Rattle.moves.proofs.holding.Held.leave_last_at.Goals.{Start, then-has, else-has}
 
 abbrev place : Start → State
 place c = state_of c.args.round.now c.args.self.now c.args.s

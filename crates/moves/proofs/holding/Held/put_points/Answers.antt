@@ -8,8 +8,8 @@ use Rattle.rules.specs.Read.{point_after, ReadyPoint}
 use Rattle.rules.specs.Moves.{source}
 use Rattle.rules.proofs.PointsAfter.{after_taken, few-ready, length-after, earlier-ready, in_row, same_rows}
 use Rattle.rules.proofs.PointsAfter.{next-position, row_put}
-use Rattle.moves.proofs.Held.put_points.Invariants.{row}
-use Rattle.moves.proofs.Held.put_points.Goals as goal
+use Rattle.moves.proofs.holding.Held.put_points.Invariants.{row}
+use Rattle.moves.proofs.holding.Held.put_points.Goals as goal
 
 pub loop-i-init : goal.loop-i-init
 loop-i-init c =

@@ -5,7 +5,7 @@ use Rattle.combinatorics.specs.Front.{front}
 use Rattle.rules.specs.Read.{point_after}
 use Rattle.rules.specs.Moves.{source}
 use Rattle.rules.proofs.PointsAfter.{in_row}
-use Rattle.moves.proofs.Held.put_points.Given as goal
+use Rattle.moves.proofs.holding.Held.put_points.Given as goal
 
 -- the first m numbers of point j
 abbrev pub row : (ℕ → ℕ) → List ℕ → List ℕ → ℕ → ℕ → List ℕ

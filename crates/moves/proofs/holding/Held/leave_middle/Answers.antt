@@ -5,8 +5,11 @@ use Rattle.combinatorics.specs.Edits.{swap_at}
 use Rattle.grid_points.specs.Grid.{at}
 use Rattle.moves.specs.Held.{state_of}
 use Rattle.moves.proofs.Cases.{same-state, middle_to_U, steps-exchanged}
-use Rattle.moves.proofs.Held.leave_middle.Goals as goal
-use Rattle.moves.proofs.Held.leave_middle.Goals.{else-to-b-via-then-to-b+else-self-b-eq0, else-to-b-via-else-to-b}
+use Rattle.moves.proofs.holding.Held.leave_middle.Goals as goal
+use Rattle.moves.proofs.holding.Held.leave_middle.Goals.{else-to-b-via-then-to-b+else-self-b-eq0, else-to-b-via-else-to-b}
+
+pub invariant_of-self : goal.invariant_of-self
+invariant_of-self c = record { first_long = c.args.self.now.first_long; order_long = c.exchange.ensures.1 }
 
 pub returns-then-self-b-eq0 : goal.returns-then-self-b-eq0
 returns-then-self-b-eq0 c =
@@ -29,7 +32,7 @@ returns c =
       | else-to-b-via-else-to-b w ↦ λ e _. w.if-to-b.false e
     ] in
     let order : take a.s.count c.exchange.new.a ≡ swap_at (a.i - 1) (take a.s.count a.self.now.order) =
-    rw c.exchange.ensures (take_swap a.s.count (a.i - 1) a.self.now.order (omega arith)) in
+    rw c.exchange.ensures.0 (take_swap a.s.count (a.i - 1) a.self.now.order (omega arith)) in
     same-state _ 1 refl refl order refl refl refl refl
     ∙ steps-exchanged (state_of a.round.now a.self.now a.s) a.i h.result w.result b.result h.ensures.is w.ensures.is
     b.ensures.0 stays

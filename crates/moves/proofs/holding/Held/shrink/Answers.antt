@@ -2,8 +2,11 @@
 use Rattle.std.proofs.Common.{Bool, ◌≡◌, ◌∙◌, sym, refl, cond, ℕ}
 use Rattle.rules.specs.Mask.{with_index}
 use Rattle.moves.proofs.Cases.{shrinks}
-use Rattle.moves.proofs.Held.shrink.Goals as goal
-use Rattle.moves.proofs.Held.shrink.Goals.{then-joins, else-joins, then-joins-2, else-joins-2}
+use Rattle.moves.proofs.holding.Held.shrink.Goals as goal
+use Rattle.moves.proofs.holding.Held.shrink.Goals.{then-joins, else-joins, then-joins-2, else-joins-2}
+
+pub invariant_of-self : goal.invariant_of-self
+invariant_of-self c = record { first_long = c.args.self.now.first_long; order_long = c.remove.ensures.1 }
 
 pub returns : goal.returns
 returns c =

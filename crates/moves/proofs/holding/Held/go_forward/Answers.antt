@@ -1,0 +1,10 @@
+-- `Held::go_forward` meets its contract: the arrays stay as long as they are. Assumes nothing.
+use Rattle.std.proofs.Common.{arith}
+use lib.ListN.{length-set}
+use Rattle.moves.proofs.holding.Held.go_forward.Goals as goal
+
+pub invariant_of-self : goal.invariant_of-self
+invariant_of-self c = record {
+  first_long = rw (c.shift.ensures, length-set, length-set) c.args.self.now.first_long;
+  order_long = c.rotate_left.ensures.1;
+}
