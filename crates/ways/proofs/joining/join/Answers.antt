@@ -5,6 +5,9 @@ use Rattle.combinatorics.specs.Edits.{insert_at}
 use Rattle.moves.proofs.Cases.{same-state}
 use Rattle.ways.proofs.joining.join.Goals as goal
 
+pub invariant_of-held : goal.invariant_of-held
+invariant_of-held c = record { first_long = c.args.held.now.first_long; order_long = c.insert.ensures.1 }
+
 pub returns : goal.returns
 returns c =
     let a = c.args in
