@@ -12,14 +12,13 @@ pub fn first_table_no(g: Grid, start: &[u16], labels: &[u8]) -> u8
     requires { IsMade g }
     ensures { result ≡ first_no (later_walk_questions g start.now labels.now) }
 {
-    let m = g.indices;
     if !g.is_grid_point(start) {
         return 5;
     }
     if labels.len() != g.points {
         return 6;
     }
-    if !all_at_most(labels, m as u8) {
+    if !all_at_most(labels, g.indices as u8) {
         return 7;
     }
     0

@@ -6,19 +6,15 @@ use crate::moving::moved;
 use crate::{Call, Told};
 use walk_places::Walk;
 
-// The walk after a call.
-fn walk_in(c: Call) -> Walk
-    ensures { result ≡ c.walk }
-{
-    c.walk
-}
-
 // What a call tells besides.
 pub fn told_in(c: Call) -> Told
     ensures { result ≡ told_in c }
 {
-    let answer = c.answer;
-    let simplex = c.simplex;
+    let Call {
+        answer,
+        simplex,
+        ..
+    } = c;
     Told { answer, simplex }
 }
 
@@ -28,6 +24,6 @@ pub fn move_on(w: &mut Walk, labels: &[u8]) -> Told
         × (w.new ≡ (call_of w.old labels.now).walk) }
 {
     let c = moved(*w, labels);
-    *w = walk_in(c);
+    *w = c.walk;
     told_in(c)
 }

@@ -8,11 +8,11 @@ ghost use Rattle.walk_calls.specs.Calls.{call_of, walk_moved_to};
 
 use crate::Call;
 use crate::asking::first_table_no;
-use grid::{Grid, Made, wide};
+use grid::{Grid, Made};
 use walk_labels::{Carried, carry};
 use walk_next::next_on;
 use walk_places::{Place, Walk, both_placed};
-use walk_ways::WalkAnswer;
+use walk_ways::{Next, WalkAnswer};
 
 // The labels of the place to which the walk is moved: those that it carries, and the table's of a point that comes in.
 // They are those of every table that has the first and, at a point that comes in, the second.
@@ -23,20 +23,7 @@ fn carried_to(g: Grid, w: Walk, labels: &[u8], next: Place) -> Carried
         → CarriesTo (table_on g w full) (place_of (shape g) w.present) G.to result }
 {
     let b = both_placed(g, w, next);
-    let from = b.from;
-    let onto = b.onto;
-    let carried = w.carried;
-    carry(&from, b.n, &carried, &onto, b.k, labels)
-}
-
-// 1 where a point came in.
-fn one_if(came_in: bool) -> u64
-    ensures { result ≡ cond came_in 1 0 }
-{
-    if came_in {
-        return 1;
-    }
-    0
+    carry(&b.from, b.n, &w.carried, &b.onto, b.k, labels)
 }
 
 // The walk moved on to a place: what was the present place is then the one before.
@@ -44,21 +31,14 @@ fn moved_to(w: Walk, place: Place, on: Carried) -> Walk
     requires { (w.places < 18446744073709551615) × (w.labels_read < 18446744073709551615) }
     ensures { result ≡ walk_moved_to w place on }
 {
-    let present = w.present;
-    let start = w.start;
-    let divisions = w.divisions;
-    let sizes = w.sizes;
     let carried = on.labels;
     Walk {
         places: w.places + 1,
-        labels_read: w.labels_read + one_if(on.came_in),
+        labels_read: w.labels_read + u64::from(on.came_in),
         present: place,
-        before: present,
-        start,
-        divisions,
-        sizes,
-        blocks: w.blocks,
+        before: w.present,
         carried,
+        ..w
     }
 }
 
@@ -67,24 +47,18 @@ fn call_on(g: Grid, w: Walk, labels: &[u8]) -> Call
     requires { IsMade g }
     ensures { result ≡ call_on (shape g) w labels.now }
 {
-    let start = w.start;
-    let m = g.indices;
-    let number = first_table_no(g, &start[..m], labels);
+    let number = first_table_no(g, &w.start[..g.indices], labels);
     if number != 0 {
         return unmoved(w, number);
     }
-    let next = next_on(g, w, labels);
-    let answer = next.answer;
-    let simplex = next.simplex;
-    let place = next.place;
+    let Next {
+        answer,
+        simplex,
+        place,
+    } = next_on(g, w, labels);
     let walk = match answer {
         WalkAnswer::Moved(_) => moved_to(w, place, carried_to(g, w, labels, place)),
-        WalkAnswer::Refused(_) => w,
-        WalkAnswer::Ended {
-            kind: _,
-            block: _,
-            vertices: _,
-        } => w,
+        WalkAnswer::Refused(_) | WalkAnswer::Ended { .. } => w,
     };
     Call {
         answer,
@@ -108,10 +82,7 @@ fn unmoved(w: Walk, number: u8) -> Call
 fn six(blocks: u8) -> usize
     ensures { result ≡ cond (leb blocks 6) blocks 0 }
 {
-    if 6 < blocks {
-        return 0;
-    }
-    wide(blocks)
+    if 6 < blocks { 0 } else { usize::from(blocks) }
 }
 
 // The grid of a walk, and the number of the first of questions 1 to 4 that is answered no.
@@ -119,9 +90,7 @@ pub fn grid_in(w: Walk) -> Made
     ensures { GridIn (walk_grid w) result }
 {
     let blocks = six(w.blocks);
-    let sizes = w.sizes;
-    let divisions = w.divisions;
-    Grid::new(&sizes[..blocks], &divisions[..blocks])
+    Grid::new(&w.sizes[..blocks], &w.divisions[..blocks])
 }
 
 // Moves a walk on by one place: questions 1 to 7 on its own grid and start and the table lent, then 20 and 16. At an
@@ -130,10 +99,8 @@ pub fn moved(w: Walk, labels: &[u8]) -> Call
     ensures { result ≡ call_of w labels.now }
 {
     let made = grid_in(w);
-    let code = made.code;
-    let g = made.grid;
-    if code != 0 {
-        return unmoved(w, code);
+    if made.code != 0 {
+        return unmoved(w, made.code);
     }
-    call_on(g, w, labels)
+    call_on(made.grid, w, labels)
 }

@@ -7,8 +7,7 @@ ghost use Rattle.combinatorics.specs.Lists.{same};
 ghost use Rattle.grid_points.specs.Grid.{at};
 ghost use Rattle.walk_labels.specs.Carrying.{CanCarry, CarriedOver, FoundIn, labels_in_marks};
 
-use arrays::{label_in, position_at, wide32};
-use grid::wide;
+use arrays::{label_in, position_at};
 use label_table::byte_at;
 
 // The labels of a place's points, with 0 behind, and whether one of the points was not in the place before.
@@ -26,7 +25,7 @@ fn label_at(marks: &[u32; 16], n: usize, k: usize) -> usize
     if n < k {
         return 0;
     }
-    wide32(label_in(marks[k]))
+    label_in(marks[k]) as usize
 }
 
 // Whether the labels carried are those in the first n + 1 marks, with 0 behind.
@@ -34,12 +33,10 @@ pub fn carries(marks: &[u32; 16], n: usize, carried: &[u8; 16]) -> bool
     requires { (n ≤ 15) × (length marks.now ≡ 16) × (length carried.now ≡ 16) }
     ensures { result ≡ same eqb carried.now (labels_in_marks marks.now n) }
 {
-    let mut k: usize = 0;
-    while k < 16 {
-        if wide(carried[k]) != label_at(marks, n, k) {
+    for (k, &label) in carried.iter().enumerate() {
+        if usize::from(label) != label_at(marks, n, k) {
             return false;
         }
-        k += 1;
     }
     true
 }
@@ -49,14 +46,12 @@ fn found(marks: &[u32; 16], n: usize, mark: u32) -> usize
     requires { (n ≤ 15) × (length marks.now ≡ 16) }
     ensures { FoundIn marks.now n mark result }
 {
-    let mut i: usize = 0;
-    while i <= n {
-        if marks[i] == mark {
+    for (i, &other) in marks[..=n].iter().enumerate() {
+        if other == mark {
             return i;
         }
-        i += 1;
     }
-    i
+    n + 1
 }
 
 // The label carried for point i of n + 1, or, where i is none of them, the table's at a position.
@@ -86,15 +81,13 @@ pub fn carry(
 {
     let mut labels = [0u8; 16];
     let mut came_in = false;
-    let mut j: usize = 0;
-    while j <= k {
-        let i = found(marks, n, next[j]);
+    for (j, &mark) in next[..=k].iter().enumerate() {
+        let i = found(marks, n, mark);
         let position = position_at(next, k, j);
         labels[j] = label_of(carried, n, i, table, position);
         if n < i {
             came_in = true;
         }
-        j += 1;
     }
     Carried { labels, came_in }
 }

@@ -6,7 +6,7 @@ ghost use Rattle.walk_ways.specs.Standing.{IsRoundOf, next_in};
 use arrays::label_in;
 use grid::Grid;
 use walk_places::Walk;
-use walk_recogniser::FoundSets;
+use walk_recogniser::Sets;
 use walk_ways::{Next, from_other, from_start};
 
 // The marks, with index 1 for the label of this point where it is not yet known.
@@ -16,7 +16,7 @@ fn filled(marks: &[u32; 16], point: usize, unknown: bool) -> [u32; 16]
 {
     let mut own = *marks;
     if unknown {
-        own[point] = own[point] + 1;
+        own[point] += 1;
     }
     own
 }
@@ -32,7 +32,7 @@ pub fn chosen(
     labels: &[u8],
     w: Walk,
     n: usize,
-    sets: FoundSets,
+    sets: Sets,
     point: usize,
 ) -> Next
     requires can_choose { CanChoose g w labels.now first.now list.now order.now marks.now n
@@ -40,18 +40,41 @@ pub fn chosen(
     requires round_of { IsRoundOf g g.previous g.next sizes.now }
     ensures { result ≡ next_in g w labels.now }
 {
-    let previous = g.previous;
-    let next = g.next;
-    let t = sets.t;
-    let u = sets.u;
+    let Sets { t, u } = sets;
     let unknown = label_in(marks[point]) == 0;
     let own = filled(marks, point, unknown);
     if n == 0 {
         return from_start(
-            g, &previous, &next, sizes, first, list, order, &own, labels, w, t, u, unknown,
+            g,
+            &g.previous,
+            &g.next,
+            sizes,
+            first,
+            list,
+            order,
+            &own,
+            labels,
+            w,
+            t,
+            u,
+            unknown,
         );
     }
     from_other(
-        g, &previous, &next, sizes, first, list, order, &own, labels, w, n, t, u, point, unknown,
+        g,
+        &g.previous,
+        &g.next,
+        sizes,
+        first,
+        list,
+        order,
+        &own,
+        labels,
+        w,
+        n,
+        t,
+        u,
+        point,
+        unknown,
     )
 }

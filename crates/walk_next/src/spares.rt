@@ -3,7 +3,7 @@ ghost use Rattle.std.specs.Prelude.{◌≡◌, ◌≤◌, ◌<◌, length};
 ghost use Rattle.walk_next.specs.Spares.{is_new, LabelsLow, SparesOf};
 
 use crate::Spared;
-use arrays::{add, has, label_in, wide32};
+use arrays::{add, has, label_in};
 
 // Whether a label is an index of T that is not yet among those seen.
 fn is_new(t: u16, seen: u16, label: u32) -> bool
@@ -13,11 +13,8 @@ fn is_new(t: u16, seen: u16, label: u32) -> bool
     if label == 0 {
         return false;
     }
-    let h = wide32(label) - 1;
-    if !has(t, h) {
-        return false;
-    }
-    !has(seen, h)
+    let h = label as usize - 1;
+    has(t, h) && !has(seen, h)
 }
 
 // The indices of T that are labels of the first n + 1 points, and the last point whose label is none of T or one seen
@@ -28,15 +25,13 @@ pub fn spare(marks: &[u32; 16], n: usize, t: u16) -> Spared
 {
     let mut seen: u16 = 0;
     let mut point: usize = 0;
-    let mut k: usize = 0;
-    while k <= n {
-        let label = label_in(marks[k]);
+    for (k, &mark) in marks[..=n].iter().enumerate() {
+        let label = label_in(mark);
         if is_new(t, seen, label) {
-            seen = add(seen, wide32(label) - 1);
+            seen = add(seen, label as usize - 1);
         } else {
             point = k;
         }
-        k += 1;
     }
     Spared { seen, point }
 }

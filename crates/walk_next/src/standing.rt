@@ -10,7 +10,7 @@ ghost use Rattle.walk_places.specs.Walks.{table_on};
 use crate::choosing::chosen;
 use crate::spares::spare;
 use arrays::block_sizes;
-use grid::{Grid, wide};
+use grid::Grid;
 use walk_labels::carries;
 use walk_places::{Walk, is_kept, seen};
 use walk_ways::{Next, refused};
@@ -20,13 +20,7 @@ fn counts_in_range(g: Grid, places: u64, read: u64) -> bool
     requires { IsMade g }
     ensures { result ≡ counts_in_range (shape g) places read }
 {
-    if read == 0 {
-        return false;
-    }
-    if places < read {
-        return false;
-    }
-    places <= g.bound()
+    0 < read && read <= places && places <= g.bound()
 }
 
 // What comes next from a place that is kept rightly: it is recognised, its labels must be those carried and have all of
@@ -37,12 +31,10 @@ fn stand(g: Grid, w: Walk, labels: &[u8], first: &[u16; 16], order: &[u32; 16], 
 {
     let mut list = [0u16; 16];
     let mut marks = [0u32; 16];
-    let sets = seen(g, w, labels, first, order, n, &mut list, &mut marks);
-    if !sets.is {
+    let Some(sets) = seen(g, w, labels, first, order, n, &mut list, &mut marks) else {
         return refused(20);
-    }
-    let carried = w.carried;
-    if !carries(&marks, n, &carried) {
+    };
+    if !carries(&marks, n, &w.carried) {
         return refused(20);
     }
     let spared = spare(&marks, n, sets.t);
@@ -71,16 +63,16 @@ pub fn next_on(g: Grid, w: Walk, labels: &[u8]) -> Next
     requires { IsMade g × (first_no (table_questions (table_on g w labels.now)) ≡ 0) }
     ensures { result ≡ next_in g w labels.now }
 {
-    let m = g.indices;
-    if !counts_in_range(g, w.places, w.labels_read) {
+    let here = w.present;
+    if !counts_in_range(g, w.places, w.labels_read) || !is_kept(here, g.indices) {
         return refused(20);
     }
-    let present = w.present;
-    if !is_kept(present, m) {
-        return refused(20);
-    }
-    let first = present.first;
-    let order = present.order;
-    let n = wide(present.count) - 1;
-    stand(g, w, labels, &first, &order, n)
+    stand(
+        g,
+        w,
+        labels,
+        &here.first,
+        &here.order,
+        usize::from(here.count) - 1,
+    )
 }

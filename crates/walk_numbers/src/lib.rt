@@ -8,10 +8,10 @@ ghost use Rattle.walk_numbers.specs.Answered.{after_beginning, after_moving, aft
 ghost use Rattle.walk_numbers.specs.Answered.{after_showing, answered_by, unanswered};
 
 use end_kinds::kind_number;
-use walk_calls::moved;
+use walk_calls::{Call, moved};
 use walk_places::Walk;
-use walk_preview::{Change, preview};
-use walk_views::{at_start, points};
+use walk_preview::{Change, Shown, preview};
+use walk_views::{PlacePoints, at_start, points};
 use walk_ways::WalkAnswer;
 
 // The walk; the number of the refusal or 0; of an end the kind, 0 place and 1 facet, the block from 1 and the number of
@@ -52,7 +52,7 @@ fn unanswered(walk: Walk, number: u8, vertices: u64, simplex: [u16; 256]) -> Ans
 fn answered_by(walk: Walk, answer: WalkAnswer, simplex: [u16; 256], change: Change) -> Answered
     ensures { result ≡ answered_by walk answer simplex change }
 {
-    let fields = change.fields;
+    let Change { map, fields } = change;
     match answer {
         WalkAnswer::Refused(number) => unanswered(walk, number, 0, simplex),
         WalkAnswer::Ended {
@@ -68,7 +68,7 @@ fn answered_by(walk: Walk, answer: WalkAnswer, simplex: [u16; 256], change: Chan
             kind: kind_number(kind),
             block,
             rule: 0,
-            map: change.map,
+            map,
         },
         WalkAnswer::Moved(rule) => Answered {
             walk,
@@ -79,7 +79,7 @@ fn answered_by(walk: Walk, answer: WalkAnswer, simplex: [u16; 256], change: Chan
             kind: 0,
             block: 0,
             rule,
-            map: change.map,
+            map,
         },
     }
 }
@@ -97,35 +97,36 @@ fn unchanged() -> Change
 pub fn after_moving(s: Answered, labels: &[u8]) -> Answered
     ensures { result ≡ after_moving s labels.now }
 {
-    let w = s.walk;
-    let c = moved(w, labels);
-    let walk = c.walk;
-    let answer = c.answer;
-    let simplex = c.simplex;
-    let change = unchanged();
-    answered_by(walk, answer, simplex, change)
+    let Call {
+        answer,
+        simplex,
+        walk,
+    } = moved(s.walk, labels);
+    answered_by(walk, answer, simplex, unchanged())
 }
 
 // The preview: the walk is as it was.
 pub fn after_showing(s: Answered, labels: &[u8]) -> Answered
     ensures { result ≡ after_showing s labels.now }
 {
-    let w = s.walk;
-    let p = preview(w, labels);
-    let answer = p.answer;
-    let simplex = p.simplex;
-    let change = p.change;
-    answered_by(w, answer, simplex, change)
+    let Shown {
+        answer,
+        simplex,
+        change,
+    } = preview(s.walk, labels);
+    answered_by(s.walk, answer, simplex, change)
 }
 
 // The points of the present place: the walk is as it was.
 pub fn after_pointing(s: Answered, labels: &[u8]) -> Answered
     ensures { result ≡ after_pointing s labels.now }
 {
-    let w = s.walk;
-    let p = points(w, labels);
-    let numbers = p.numbers;
-    unanswered(w, p.code, p.count as u64, numbers)
+    let PlacePoints {
+        code,
+        count,
+        numbers,
+    } = points(s.walk, labels);
+    unanswered(s.walk, code, count as u64, numbers)
 }
 
 // The walk at {v}, or with a refusal the walk as it was.
@@ -140,11 +141,8 @@ pub fn after_beginning(
         sizes.now divisions.now start.now labels.now }
 {
     let b = at_start(sizes, divisions, start, labels);
-    let code = b.code;
-    if code != 0 {
-        let old = s.walk;
-        return unanswered(old, code, 0, [0u16; 256]);
+    if b.code != 0 {
+        return unanswered(s.walk, b.code, 0, [0u16; 256]);
     }
-    let walk = b.walk;
-    unanswered(walk, 0, 0, [0u16; 256])
+    unanswered(b.walk, 0, 0, [0u16; 256])
 }

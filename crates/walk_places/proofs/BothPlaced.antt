@@ -1,5 +1,5 @@
 -- The two places of a move. In order: marks in an array; both places are kept; what is told of them. Assumes nothing.
-use mathlib.Core.Bool.{true}
+use mathlib.Core.Bool.{true, false}
 use mathlib.Core.List.{List, [], ◌∷◌, map}
 use mathlib.Core.Logic.{⊎_elim}
 use mathlib.Core.Path.{◌≡◌, refl, sym, ap, ◌∙◌, subst}
@@ -32,9 +32,9 @@ use Rattle.path_laws.specs.Demand.{Accepted}
 use Rattle.positions.proofs.ByTails.{position-tells}
 use Rattle.questions.proofs.Answers.{both_yes}
 use Rattle.questions.specs.Questions.{first_no}
-use Rattle.walk_recogniser.specs.Kept.{Recognised, Seen}
+use Rattle.walk_recogniser.specs.Kept.{Seen}
 use Rattle.walk_recogniser.specs.Pieces.{bare_mark}
-use Rattle.walk_recogniser.specs.declared.FoundSets.{FoundSets}
+use Rattle.walk_recogniser.specs.declared.Sets.{Sets}
 use Rattle.rules.proofs.Marks.{position_in as position-of-mark}
 use Rattle.rules.specs.Moves.{mark_position}
 use Rattle.walks.proofs.KeptForm.{T-is, U-is, grid-long, meets, order_is}
@@ -87,16 +87,11 @@ module _ {p : Problem} (ok : Accepted p) where
       rw (bare-tells y w.0 h (all_in on_points (is_grid_point p.grid) a on w.0 w.1) w.2) w.1)
       (λ m. in_map on_points on_numbers (bare_mark p.grid) y a m)
 
--- a place that is recognised
-module _ {p : Problem} (ok : Accepted p) {marking : Point → ℕ} {y : Point} {o list marks : List ℕ} {r : FoundSets}
-    (R : Recognised p marking y o list marks r)
-    (place : is_place p (kept_points p.grid y o) ≡ true) where
-  sees : Seen p marking y o list marks r.t r.u
-  sees =
-      ⊎_elim (λ t. R.yes t)
-      (λ f. absurd_bool (sym (and_left (is_kept p y o) (within o (label_set p (kept_points p.grid y o)))
-      (sym (recognised ok.has_start y o) ∙ place)) ∙ R.no f))
-      (true_or_false r.is)
+-- what is a place is kept
+place-kept : (p : Problem) → Accepted p → (y : Point) (o : List ℕ) → is_place p (kept_points p.grid y o) ≡ true
+    → is_kept p y o ≡ false → ⊥
+place-kept p ok y o place f = absurd_bool (sym (and_left (is_kept p y o) (within o (label_set p (kept_points p.grid y o)))
+    (sym (recognised ok.has_start y o) ∙ place)) ∙ f)
 
 module _ {g : GridStruct} {w : WalkStruct} {labels : List ℕ} {next : Place} (made : IsMade g)
     (G : GoesTo (shape g) w labels next) where
@@ -214,10 +209,6 @@ module _ {g : GridStruct} {w : WalkStruct} {labels : List ℕ} {next : Place} (m
 
   -- what is told of both
   module _ (n k : ℕ) (is-n : n ≡ pred w.present.count) (is-k : k ≡ pred next.count)
-      {list marks list2 marks2 : List ℕ} {a b : FoundSets}
-      (A : Recognised p (bare_mark (shape g)) (take g.indices w.present.first) (take n w.present.order)
-      list marks a)
-      (B : Recognised p (bare_mark (shape g)) (take g.indices next.first) (take k next.order) list2 marks2 b)
     where
       abbrev z : Point
       z = take g.indices w.present.first
@@ -228,13 +219,11 @@ module _ {g : GridStruct} {w : WalkStruct} {labels : List ℕ} {next : Place} (m
       here-kept : is_place p (kept_points (shape g) z r) ≡ true
       here-kept = subst (λ (s : Simplex). is_place p s ≡ true) (here-is n is-n) here_place
 
-      S : Seen p (bare_mark (shape g)) z r list marks a.t a.u
-      S = sees ok A here-kept
+      pub present-kept : is_kept p z r ≡ false → ⊥
+      present-kept = place-kept p ok z r here-kept
 
-      R : Seen p (bare_mark (shape g)) y o list2 marks2 b.t b.u
-      R = sees ok (subst (λ (x : List ℕ). Recognised p (bare_mark (shape g)) y x list2 marks2 b) (order_taken k is-k)
-          (subst (λ (x : Point). Recognised p (bare_mark (shape g)) x (take k next.order) list2 marks2 b)
-          first_taken B)) there-kept
+      pub next-kept : is_kept p (take g.indices next.first) (take k next.order) ≡ false → ⊥
+      next-kept f = place-kept p ok y o there-kept (rw (first_taken, order_taken k is-k) at f)
 
       abbrev from : Simplex
       from = kept_points (shape g) z r
@@ -251,36 +240,43 @@ module _ {g : GridStruct} {w : WalkStruct} {labels : List ℕ} {next : Place} (m
       k_is : k ≡ length o
       k_is = omega (arith, next-count)
 
-      pub both_marked : BothMarked p here there (record {
-        from = marks;
-        n = n;
-        t = a.t;
-        u = a.u;
-        onto = marks2;
-        k = k;
-        t2 = b.t;
-        u2 = b.u;
-      })
-      both_marked = record {
-        few = (place-present n is-n).few;
-        from_long = S.marks_long;
-        from = marks-are (bare_mark (shape g)) from n marks from-long
-            (omega (arith, S.marks_long, (place-present n is-n).few)) (λ j l. S.marked j (omega (arith, r_long)))
-            ∙ ap (map (bare_mark (shape g))) (sym (here-is n is-n));
-        in_t = λ k l. S.in_t k l ∙ T-is p z r here-kept k ∙ ap (λ (s : Simplex). is_in eqb k (set_t p s))
-            (sym (here-is n is-n));
-        in_u = λ k l. S.in_u k l ∙ U-is p z r here-kept k ∙ ap (λ (s : Simplex). is_in eqb k (set_u (shape g) s))
-            (sym (here-is n is-n));
-        few_next = (place-next k is-k).few;
-        onto_long = R.marks_long;
-        onto = marks-are (bare_mark (shape g)) (kept_points (shape g) y o) k marks2
-            (ap length there-is ∙ there-long ∙ ap suc (sym k_is)) (omega (arith, R.marks_long, k_is, o-few))
-            (λ j l. R.marked j (omega (arith, k_is)))
-            ∙ ap (map (bare_mark (shape g))) there-is;
-        next_t = λ k l. R.in_t k l ∙ T-is p y o there-kept k ∙ ap (λ (s : Simplex). is_in eqb k (set_t p s)) there-is;
-        next_u = λ k l. R.in_u k l ∙ U-is p y o there-kept k ∙ ap (λ (s : Simplex). is_in eqb k (set_u (shape g) s))
-            there-is;
-      }
+      module _ {list marks list2 marks2 : List ℕ} {a b : Sets}
+          (S : Seen p (bare_mark (shape g)) z r list marks a.t a.u)
+          (next_seen : Seen p (bare_mark (shape g)) (take g.indices next.first) (take k next.order) list2 marks2 b.t b.u)
+        where
+          R : Seen p (bare_mark (shape g)) y o list2 marks2 b.t b.u
+          R = rw (first_taken, order_taken k is-k) at next_seen
+
+          pub both_marked : BothMarked p here there (record {
+            from = marks;
+            n = n;
+            t = a.t;
+            u = a.u;
+            onto = marks2;
+            k = k;
+            t2 = b.t;
+            u2 = b.u;
+          })
+          both_marked = record {
+            few = (place-present n is-n).few;
+            from_long = S.marks_long;
+            from = marks-are (bare_mark (shape g)) from n marks from-long
+                (omega (arith, S.marks_long, (place-present n is-n).few)) (λ j l. S.marked j (omega (arith, r_long)))
+                ∙ ap (map (bare_mark (shape g))) (sym (here-is n is-n));
+            in_t = λ k l. S.in_t k l ∙ T-is p z r here-kept k ∙ ap (λ (s : Simplex). is_in eqb k (set_t p s))
+                (sym (here-is n is-n));
+            in_u = λ k l. S.in_u k l ∙ U-is p z r here-kept k ∙ ap (λ (s : Simplex). is_in eqb k (set_u (shape g) s))
+                (sym (here-is n is-n));
+            few_next = (place-next k is-k).few;
+            onto_long = R.marks_long;
+            onto = marks-are (bare_mark (shape g)) (kept_points (shape g) y o) k marks2
+                (ap length there-is ∙ there-long ∙ ap suc (sym k_is)) (omega (arith, R.marks_long, k_is, o-few))
+                (λ j l. R.marked j (omega (arith, k_is)))
+                ∙ ap (map (bare_mark (shape g))) there-is;
+            next_t = λ k l. R.in_t k l ∙ T-is p y o there-kept k ∙ ap (λ (s : Simplex). is_in eqb k (set_t p s)) there-is;
+            next_u = λ k l. R.in_u k l ∙ U-is p y o there-kept k ∙ ap (λ (s : Simplex). is_in eqb k (set_u (shape g) s))
+                there-is;
+          }
 
   -- the points of both are on the grid
   pub on-here : all (is_grid_point (shape g)) here ≡ true

@@ -5,7 +5,6 @@ ghost use Rattle.walk_places.specs.Walks.{holds_numbers, kept_as, nowhere, same_
 
 use crate::Place;
 use arrays::padded;
-use grid::wide;
 
 // The first n numbers of the order, 0 behind them.
 fn cut(order: &[u32; 16], n: usize) -> [u32; 16]
@@ -13,11 +12,7 @@ fn cut(order: &[u32; 16], n: usize) -> [u32; 16]
     ensures { result ≡ front (take n order.now) (replicate 16 0) }
 {
     let mut a = [0u32; 16];
-    let mut k: usize = 0;
-    while k < n {
-        a[k] = order[k];
-        k += 1;
-    }
+    a[..n].copy_from_slice(&order[..n]);
     a
 }
 
@@ -27,11 +22,9 @@ pub fn kept_as(first: &[u16; 16], m: usize, order: &[u32; 16], n: usize) -> Plac
     requires n_bound { (n ≤ 15) × (length order.now ≡ 16) }
     ensures { result ≡ kept_as m first.now order.now n }
 {
-    let y = padded(first, m);
-    let o = cut(order, n);
     Place {
-        first: y,
-        order: o,
+        first: padded(first, m),
+        order: cut(order, n),
         count: n as u8 + 1,
     }
 }
@@ -52,24 +45,7 @@ pub fn none() -> Place
 pub fn same_place(a: Place, b: Place) -> bool
     ensures { (result ≡ same_place a b) × (length b.order ≡ 16) }
 {
-    if a.count != b.count {
-        return false;
-    }
-    let x = a.first;
-    let y = b.first;
-    let o = a.order;
-    let r = b.order;
-    let mut k: usize = 0;
-    while k < 16 {
-        if x[k] != y[k] {
-            return false;
-        }
-        if o[k] != r[k] {
-            return false;
-        }
-        k += 1;
-    }
-    true
+    a == b
 }
 
 // Whether a place is kept rightly: from 1 to 16 points, and 0 behind the numbers. Its arrays have 16 numbers, which a
@@ -78,14 +54,8 @@ pub fn is_kept(p: Place, m: usize) -> bool
     requires { m ≤ 16 }
     ensures { (result ≡ holds_numbers m p) × (length p.first ≡ 16) × (length p.order ≡ 16) }
 {
-    let count = p.count;
-    if count == 0 {
+    if p.count == 0 || 16 < p.count {
         return false;
     }
-    if 16 < count {
-        return false;
-    }
-    let first = p.first;
-    let order = p.order;
-    same_place(p, kept_as(&first, m, &order, wide(count) - 1))
+    same_place(p, kept_as(&p.first, m, &p.order, usize::from(p.count) - 1))
 }

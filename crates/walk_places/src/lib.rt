@@ -11,7 +11,7 @@ pub use placing::{both_placed, seen};
 // and how many points it has. What stands behind is 0, so that places are the same exactly if their structs are; 0
 // points and nothing but 0 are no place.
 #[repr(C)]
-#[derive(Clone, Copy)]
+#[derive(Clone, Copy, PartialEq, Eq)]
 pub struct Place {
     pub first: [u16; 16],
     pub order: [u32; 16],

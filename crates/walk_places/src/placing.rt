@@ -10,9 +10,9 @@ ghost use Rattle.walk_places.specs.Walks.{place_of, table_on};
 
 use crate::{Both, Place, Walk};
 use arrays::block_sizes;
-use grid::{Grid, wide};
+use grid::Grid;
 use positions::ENTRIES;
-use walk_recogniser::{FoundSets, read_labels, recognise};
+use walk_recogniser::{Sets, read_labels, recognise};
 
 // T and U of the place with this first point and order, if it is one but for its labels; the coefficients and the
 // positions of the points, in marks without labels, into their arrays.
@@ -24,23 +24,20 @@ pub fn placed(
     n: usize,
     list: &mut [u16; 16],
     marks: &mut [u32; 16],
-) -> FoundSets
+) -> Option<Sets>
     requires { CanPlace g w first.now order.now n × (length marks.old ≡ 16) }
     ensures { (labels : List ℕ) → Recognised (table_on g w labels) (bare_mark (shape g))
         (take g.indices first.now) (take n order.now)
         list.new marks.new result }
 {
-    let previous = g.previous;
     let sizes = block_sizes(g);
-    let start = w.start;
-    let m = g.indices;
     let mut binomials = [0u16; ENTRIES];
     positions::binomials(g, &mut binomials);
     recognise(
         g,
         &binomials,
-        &start[..m],
-        &previous,
+        &w.start[..g.indices],
+        &g.previous,
         &sizes,
         first,
         order,
@@ -60,18 +57,15 @@ pub fn seen(
     n: usize,
     list: &mut [u16; 16],
     marks: &mut [u32; 16],
-) -> FoundSets
+) -> Option<Sets>
     requires { CanSee g w labels.now first.now order.now n × (length marks.old ≡ 16) }
     ensures { Recognised (table_on g w labels.now) (mark_of (table_on g w labels.now))
         (take g.indices first.now) (take n order.now)
         list.new marks.new result }
 {
-    let sets = placed(g, w, first, order, n, list, marks);
-    if !sets.is {
-        return sets;
-    }
+    let sets = placed(g, w, first, order, n, list, marks)?;
     read_labels(labels, n, marks);
-    sets
+    Some(sets)
 }
 
 // The walk's present place and the one to which it is moved, without their labels.
@@ -80,18 +74,18 @@ pub fn both_placed(g: Grid, w: Walk, next: Place) -> Both
     ensures { (labels : List ℕ) → (G : GoesTo (shape g) w labels next)
         → BothMarked (table_on g w labels) (place_of (shape g) w.present) G.to result }
 {
-    let present = w.present;
-    let first = present.first;
-    let order = present.order;
-    let n = wide(present.count) - 1;
-    let first2 = next.first;
-    let order2 = next.order;
-    let k = wide(next.count) - 1;
+    let here = w.present;
+    let n = usize::from(here.count) - 1;
+    let k = usize::from(next.count) - 1;
     let mut list = [0u16; 16];
     let mut from = [0u32; 16];
     let mut onto = [0u32; 16];
-    let a = placed(g, w, &first, &order, n, &mut list, &mut from);
-    let b = placed(g, w, &first2, &order2, k, &mut list, &mut onto);
+    let Some(a) = placed(g, w, &here.first, &here.order, n, &mut list, &mut from) else {
+        unreachable!()
+    };
+    let Some(b) = placed(g, w, &next.first, &next.order, k, &mut list, &mut onto) else {
+        unreachable!()
+    };
     Both {
         from,
         n,

@@ -12,14 +12,7 @@ fn among(marks: &[u32; 16], n: usize, mark: u32) -> bool
     requires { (n ≤ 15) × (length marks.now ≡ 16) }
     ensures { result ≡ is_in eqb mark (take (suc n) marks.now) }
 {
-    let mut k: usize = 0;
-    while k <= n {
-        if marks[k] == mark {
-            return true;
-        }
-        k += 1;
-    }
-    false
+    marks[..=n].contains(&mark)
 }
 
 // The position in the first of n + 1 marks that is not among the k + 1 others; 0 where there is none.
@@ -28,12 +21,10 @@ pub fn other(marks: &[u32; 16], n: usize, others: &[u32; 16], k: usize) -> u32
     requires k_bound { (k ≤ 15) × (length others.now ≡ 16) }
     ensures { result ≡ other_in (take (suc n) marks.now) (take (suc k) others.now) }
 {
-    let mut j: usize = 0;
-    while j <= n {
-        if !among(others, k, marks[j]) {
+    for (j, &mark) in marks[..=n].iter().enumerate() {
+        if !among(others, k, mark) {
             return position_at(marks, n, j) as u32;
         }
-        j += 1;
     }
     0
 }
@@ -43,9 +34,7 @@ pub fn index_of(t: u16, u: u16, t2: u16, u2: u16) -> u32
     ensures { result ≡ suc (index_from t u t2 u2) }
 {
     let h = difference(t, t2);
-    if h == 16 {
-        return difference(u, u2) as u32 + 1;
-    }
+    let h = if h == 16 { difference(u, u2) } else { h };
     h as u32 + 1
 }
 

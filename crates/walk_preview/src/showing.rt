@@ -8,7 +8,7 @@ ghost use Rattle.walk_preview.specs.Previews.{CanShow, MovesTo, change_in, chang
 use crate::changes::{change_for, index_of, other};
 use crate::{Change, Shown};
 use grid::Grid;
-use walk_calls::{grid_in, moved};
+use walk_calls::{Call, grid_in, moved};
 use walk_places::{Place, Walk, both_placed};
 use walk_ways::WalkAnswer;
 
@@ -29,12 +29,8 @@ fn change_on(g: Grid, w: Walk, next: Place, rule: u8) -> Change
     ensures { (labels : List ℕ) → CanShow g w labels next rule → result ≡ change_on g w labels }
 {
     let b = both_placed(g, w, next);
-    let n = b.n;
-    let k = b.k;
-    let from = b.from;
-    let onto = b.onto;
-    let come = other(&onto, k, &from, n);
-    let gone = other(&from, n, &onto, k);
+    let come = other(&b.onto, b.k, &b.from, b.n);
+    let gone = other(&b.from, b.n, &b.onto, b.k);
     change_for(rule, come, gone, index_of(b.t, b.u, b.t2, b.u2))
 }
 
@@ -43,9 +39,7 @@ fn change_in(w: Walk, next: Place, rule: u8) -> Change
     requires { (labels : List ℕ) × MovesTo w labels next rule }
     ensures { (labels : List ℕ) → MovesTo w labels next rule → result ≡ change_in w labels }
 {
-    let made = grid_in(w);
-    let g = made.grid;
-    change_on(g, w, next, rule)
+    change_on(grid_in(w).grid, w, next, rule)
 }
 
 // Shows the move before it is made: the moving call's refusals and ends, and what a move would change. Nothing is
@@ -53,18 +47,14 @@ fn change_in(w: Walk, next: Place, rule: u8) -> Change
 pub fn preview(w: Walk, labels: &[u8]) -> Shown
     ensures { result ≡ shown_as (preview_of (walk_of w) labels.now) }
 {
-    let c = moved(w, labels);
-    let answer = c.answer;
-    let simplex = c.simplex;
-    let next = c.walk.present;
+    let Call {
+        answer,
+        simplex,
+        walk,
+    } = moved(w, labels);
     let change = match answer {
-        WalkAnswer::Moved(rule) => change_in(w, next, rule),
-        WalkAnswer::Refused(_) => unchanged(),
-        WalkAnswer::Ended {
-            kind: _,
-            block: _,
-            vertices: _,
-        } => unchanged(),
+        WalkAnswer::Moved(rule) => change_in(w, walk.present, rule),
+        WalkAnswer::Refused(_) | WalkAnswer::Ended { .. } => unchanged(),
     };
     Shown {
         answer,

@@ -46,14 +46,6 @@ pub record Met (g : GridStruct) (c : List ℕ) (t u h met : ℕ) : Type 0 where
   pub few : met ≤ g.blocks
 
 module _ (g : GridStruct) (made : IsMade g) (c : List ℕ) (t u : ℕ) where
-  pub met_none : Met g c t u 0 0
-  met_none = record {
-    each = λ j l. absurd (omega arith);
-    next = λ k l. absurd (omega arith);
-    zero = λ k l. absurd (omega arith);
-    few = omega arith;
-  }
-
   block-low : (h : ℕ) → h < g.indices → block_of (shape g) h < g.blocks
   block-low h l =
       omega (arith, (block_spans (shape g).sizes h (omega (arith, made-indices g made))).0, made-blocks g made)

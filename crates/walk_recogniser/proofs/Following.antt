@@ -7,6 +7,7 @@ use mathlib.Core.Path.{◌≡◌, refl, ap, ◌∙◌}
 use Prim.Native.Nat.{ℕ, ◌+◌, ◌-◌, ◌≤◌, ◌<◌}
 use borrow.Author.Tests.{eqb-true, ne_eqb}
 use lib.Dec.{eqb}
+use Rattle.std.proofs.Common.{min}
 use lib.ListN.{length, set, take, length-set}
 use lib.Seq.{get_or-set_same, get_or-set_other, get_or-take}
 use native.Mathlib.Numerals.{add-one}
@@ -44,13 +45,6 @@ pub record Follows (c : List ℕ) (first end h x least : ℕ) : Type 0 where
   pub each : (k : ℕ) → first ≤ k → k < h → least + at c first ≤ 65535 + at c k
 
 module _ (c v y : List ℕ) (first end : ℕ) (B : InBlock c v y first end) where
-  pub follow-none : Follows c first end first 65535 65535
-  follow-none = record {
-    here = rw (wrap_inside first end first B.some) refl;
-    low = omega arith;
-    each = λ k a b. absurd (omega arith);
-  }
-
   module _ (h x least : ℕ) (a : first ≤ h) (l : h < end) (F : Follows c first end h x least) where
     pub follow-fits : at y h ≤ x + at v h
     follow-fits = omega (
@@ -75,41 +69,16 @@ module _ (c v y : List ℕ) (first end : ℕ) (B : InBlock c v y first end) wher
       ap (at c) (wrap_next first end h),
     )
 
-    pub follow_less : x < least → Follows c first end (h + 1) (x + at v h - at y h) x
-    follow_less m = record {
+    pub follow_more : Follows c first end (h + 1) (x + at v h - at y h) (min least x)
+    follow_more = record {
       here = on;
-      low = omega (arith, F.here);
+      low = omega (arith, F.here, F.low);
       each = λ k d e. ⊎_elim (λ (q : k ≡ h). rw q (omega (arith, F.here, ap (at c) (wrap_inside first end h l))))
           (λ (q : k ≡ h → ⊥). omega (arith, F.each k d (omega (arith, q)))) (same_or k h);
     }
 
-    pub follow_not : least ≤ x → Follows c first end (h + 1) (x + at v h - at y h) least
-    follow_not m = record {
-      here = on;
-      low = F.low;
-      each = λ k d e. ⊎_elim (λ (q : k ≡ h). rw q (omega (arith, F.here, ap (at c) (wrap_inside first end h l))))
-          (λ (q : k ≡ h → ⊥). F.each k d (omega (arith, q))) (same_or k h);
-    }
-
-  pub follow-all : (x least : ℕ) → Follows c first end end x least → (least ≤ 65535) → 65535 - least ≡ at c first
-  follow-all x least F m = let z = B.zero in omega (arith, F.low, F.each z.0 z.1 z.2, z.3, B.small first)
-
   -- the same, stored from the first on
-  pub put_none : (old : List ℕ) → length old ≡ 16 → PutIn c first first old old
-  put_none old e = record {
-    long = e;
-    inside = λ k a b. absurd (omega arith);
-    outside = λ k a. refl;
-    behind = λ k a. refl;
-  }
-
   module _ (h x : ℕ) (a : first ≤ h) (l : h < end) (F : x ≡ at c (wrap first end h)) where
-    pub put_fits : (at y h ≤ x + at v h) × (x ≤ 65535)
-    put_fits = (
-      omega (arith, ap (at c) (wrap_inside first end h l), B.rule h a l),
-      omega (arith, B.small h, ap (at c) (wrap_inside first end h l)),
-    )
-
     pub put_on : x + at v h - at y h ≡ at c (wrap first end (h + 1))
     put_on = omega (arith, ap (at c) (wrap_inside first end h l), B.rule h a l, ap (at c) (wrap_next first end h))
 

@@ -280,31 +280,6 @@ module _ {g : GridStruct} (made : IsMade g) {first order : List ℕ} {n : ℕ} {
             (λ (q : j ≡ k → ⊥). get_or-set_other marks k j r 0 q ∙ R.marked j (omega (arith, q))) (same_or j k);
       }
 
-  -- all steps are made: the last point's mark
-  module _ {marks steps : List ℕ} (R : Reached g first order n marks steps n) where
-    none_left : drop n o ≡ []
-    none_left = drop_all o n (omega (arith, length-take n order, M.order_long, M.few))
-      where
-        drop_all : (l : List ℕ) (k : ℕ) → length l ≤ k → drop k l ≡ []
-        drop_all [] zero e = refl
-        drop_all [] (suc k) e = refl
-        drop_all (x ∷ l) zero e = absurd (omega arith)
-        drop_all (x ∷ l) (suc k) e = drop_all l k (omega arith)
-
-    pub can-all : can_step (shape g) zeros y o ≡ true
-    can-all = sym R.can ∙ ap (can_step (shape g) zeros (point_with g first steps)) none_left
-
-    last-point : get_or points n [] ≡ point_with g first steps
-    last-point = drop-first points n (point_with g first steps) []
-        (sym R.rest ∙ ap (points_by (shape g) zeros (point_with g first steps)) none_left)
-
-    pub marked_all : (r : ℕ) → r ≡ bare_mark (shape g) (point_with g first steps) → (j : ℕ) → j ≤ n → at (set marks n r)
-        j ≡ bare_mark (shape g) (get_or points j [])
-    marked_all r e j l =
-        ⊎_elim (λ (q : j ≡ n). rw q (get_or-set_same marks n r 0 (omega (arith, R.marks_long, M.few)) ∙ e ∙ ap
-        (bare_mark (shape g)) (sym last-point)))
-        (λ (q : j ≡ n → ⊥). get_or-set_other marks n j r 0 q ∙ R.marked j (omega (arith, q))) (same_or j n)
-
 pub position-low : (g : GridStruct) → IsMade g → (y : Point) → is_grid_point (shape g) y ≡ true → position (shape g)
     y < num_points (shape g)
 position-low g made y on = position_in_lem (grid_points (shape g)) y

@@ -5,6 +5,7 @@ use mathlib.Core.List.{List, []}
 use mathlib.Core.Path.{◌≡◌, refl, sym, ap, ◌∙◌}
 use Prim.Native.Nat.{ℕ, ◌+◌, ◌-◌, ◌≤◌, ◌<◌}
 use borrow.Author.Tests.{eqb-true, eq-eqb, ltb-true, lt-ltb, not-true}
+use Rattle.std.proofs.Common.{Option, Some, None}
 use lib.Dec.{eqb, ltb}
 use lib.ListN.{length, take, length-take}
 use lib.Seq.{get_or-take}
@@ -40,13 +41,7 @@ use Rattle.walk_recogniser.proofs.Following.{has-start-on}
 use Rattle.walk_recogniser.specs.Kept.{CanRecognise, Recognised, Seen}
 use Rattle.walk_recogniser.specs.Pieces.{AllFree, AreTandU, CanMark, Marked, NoSets, NotFree, bare_mark, beyond}
 use Rattle.walk_recogniser.specs.Pieces.{filled, in_neither, positive, started_on, twice}
-use Rattle.walk_recogniser.specs.declared.FoundSets.{FoundSets}
-
-pub not_recognised : {p : Problem} {marking : Point → ℕ} {y : Point} {o list marks : List ℕ} {r : FoundSets} → r.is
-    ≡ false
-    → is_kept p y o ≡ false
-    → Recognised p marking y o list marks r
-not_recognised e h = record { yes = λ t. absurd_bool (sym t ∙ e); no = λ _. h }
+use Rattle.walk_recogniser.specs.declared.Sets.{Sets}
 
 module _ {g : GridStruct} {binomials start previous sizes first order : List ℕ} {n : ℕ} {marks : List ℕ}
     (C : CanRecognise g binomials start previous sizes first order n marks) where
@@ -228,20 +223,18 @@ module _ {g : GridStruct} {binomials start previous sizes first order : List ℕ
       }
 
 -- whatever the label table
-pub with_table : (g : GridStruct) (start labels : List ℕ) {marking : Point → ℕ} {y : Point} {o list marks : List ℕ}
-    {r : FoundSets}
+pub with_table : (g : GridStruct) (start labels : List ℕ) (marking : Point → ℕ) (y : Point) (o list marks : List ℕ)
+    (r : Option Sets)
     → Recognised (started_on g start) marking y o list marks r → Recognised (with_labels (started_on g start) labels)
     marking y o list marks r
 unfolding is_kept coefficients
-with_table g start labels R = record {
-  yes = λ e. let S = R.yes e in record {
-    kept = S.kept;
-    in_t = S.in_t;
-    in_u = S.in_u;
-    list_long = S.list_long;
-    list_at = S.list_at;
-    marks_long = S.marks_long;
-    marked = S.marked;
-  };
-  no = R.no;
+with_table g start labels marking _ _ list marks None e = e
+with_table g start labels marking _ _ list marks (Some sets) S = record {
+  kept = S.kept;
+  in_t = S.in_t;
+  in_u = S.in_u;
+  list_long = S.list_long;
+  list_at = S.list_at;
+  marks_long = S.marks_long;
+  marked = S.marked;
 }

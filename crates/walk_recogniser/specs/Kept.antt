@@ -1,5 +1,5 @@
 -- What the recogniser gives. Assumes nothing.
-use Rattle.std.specs.Prelude.{true, false, List, [], ◌≡◌, ℕ, ◌≤◌, ◌<◌, eqb, length, get_or}
+use Rattle.std.specs.Prelude.{true, false, Option, Some, None, List, [], ◌≡◌, ℕ, ◌≤◌, ◌<◌, eqb, length, get_or}
 use Rattle.combinatorics.specs.Lists.{is_in}
 use Rattle.grid_points.specs.Grid.{Point, at, block_of, is_grid_point, num_indices, previous as index_before, size}
 use Rattle.grid.specs.Made.{shape}
@@ -10,7 +10,7 @@ use Rattle.positions.specs.Binomials.{Measured}
 use Rattle.rules.specs.Mask.{bit}
 use Rattle.rules.specs.Ready.{IndicesBelow}
 use Rattle.walks.specs.Kept.{is_kept, kept_points, zero_outside}
-use Rattle.walk_recogniser.specs.declared.FoundSets.{FoundSets}
+use Rattle.walk_recogniser.specs.declared.Sets.{Sets}
 
 pub record CanRecognise (g : GridStruct) (binomials start previous sizes first order : List ℕ) (n : ℕ) (marks : List ℕ)
     : Type 0 where
@@ -37,7 +37,6 @@ pub record Seen (p : Problem) (marking : Point → ℕ) (y : Point) (o list mark
   pub marked : (j : ℕ) → j ≤ length o → at marks j ≡ marking (get_or (kept_points p.grid y o) j [])
 
 -- exactly where the conditions are met
-pub record Recognised (p : Problem) (marking : Point → ℕ) (y : Point) (o list marks : List ℕ) (r : FoundSets) : Type
-    0 where
-  pub yes : r.is ≡ true → Seen p marking y o list marks r.t r.u
-  pub no : r.is ≡ false → is_kept p y o ≡ false
+abbrev pub Recognised : Problem → (Point → ℕ) → Point → List ℕ → List ℕ → List ℕ → Option Sets → Type 0
+Recognised p marking y o list marks None = is_kept p y o ≡ false
+Recognised p marking y o list marks (Some sets) = Seen p marking y o list marks sets.t sets.u

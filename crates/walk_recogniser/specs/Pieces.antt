@@ -1,5 +1,5 @@
 -- What the functions of the recogniser ask and give, on lists. Assumes nothing.
-use Rattle.std.specs.Prelude.{Bool, true, false, not, ◌&&◌, cond, List, [], ◌≡◌, ℕ, suc, ◌+◌, ◌≤◌, ◌<◌, eqb, length, take, get_or}
+use Rattle.std.specs.Prelude.{Bool, Option, Some, None, true, false, not, ◌&&◌, cond, List, [], ◌≡◌, ℕ, suc, ◌+◌, ◌≤◌, ◌<◌, eqb, length, take, get_or}
 use Rattle.grid_points.specs.Grid.{Grid, Point, at, block_of, is_grid_point, position}
 use Rattle.grid.specs.Made.{shape}
 use Rattle.grid.specs.declared.Grid.{Grid as GridStruct}
@@ -9,7 +9,7 @@ use Rattle.positions.specs.Steps.{after_steps, CanTakeSteps}
 use Rattle.rules.specs.Mask.{bit}
 use Rattle.rules.specs.Moves.{mark, mark_position}
 use Rattle.walks.specs.Kept.{can_step, kept_points, zero_outside}
-use Rattle.walk_recogniser.specs.declared.FoundSets.{FoundSets}
+use Rattle.walk_recogniser.specs.declared.Sets.{Sets}
 
 -- the grid and a start, no label being looked at
 abbrev pub started_on : GridStruct → List ℕ → Problem
@@ -28,9 +28,9 @@ pub data NoSets (order : List ℕ) (n m : ℕ) : Type 0 where
   beyond : (j : ℕ) → j < n → m ≤ at order j → NoSets order n m
   twice : (i j : ℕ) → i < j → j < n → at order i ≡ at order j → NoSets order n m
 
-pub record SetsOf (order : List ℕ) (n m zeros : ℕ) (r : FoundSets) : Type 0 where
-  pub yes : r.is ≡ true → AreTandU order n m zeros r.t r.u
-  pub no : r.is ≡ false → NoSets order n m
+abbrev pub SetsOf : List ℕ → ℕ → ℕ → ℕ → Option Sets → Type 0
+SetsOf order n m _ None = NoSets order n m
+SetsOf order n m free (Some sets) = AreTandU order n m free sets.t sets.u
 
 -- index h is in neither of two masks
 abbrev pub in_neither : ℕ → ℕ → ℕ → Type 0

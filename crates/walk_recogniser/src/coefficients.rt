@@ -5,7 +5,7 @@ ghost use Rattle.grid.specs.Made.{IsMade, shape};
 ghost use Rattle.place.specs.Coefficients.{coefficients as coefficients_of};
 ghost use Rattle.walk_recogniser.specs.Pieces.{InBlock, PutIn, started_on};
 
-use grid::{Grid, wide, wide16};
+use grid::Grid;
 
 // The coefficient at the first index of a block, whose indices stand from first up to end: followed from 65,535 on, the
 // coefficients fall by it.
@@ -15,13 +15,9 @@ fn first_of(v: &[u16], y: &[u16; 16], first: usize, end: usize) -> usize
 {
     let mut x: usize = 65535;
     let mut least: usize = 65535;
-    let mut h = first;
-    while h < end {
-        if x < least {
-            least = x;
-        }
-        x = x + wide16(v[h]) - wide16(y[h]);
-        h += 1;
+    for h in first..end {
+        least = least.min(x);
+        x = x + usize::from(v[h]) - usize::from(y[h]);
     }
     65535 - least
 }
@@ -34,11 +30,9 @@ fn put_block(list: &mut [u16; 16], v: &[u16], y: &[u16; 16], first: usize, end: 
         → PutIn c first end list.old list.new }
 {
     let mut x = from;
-    let mut h = first;
-    while h < end {
+    for h in first..end {
         list[h] = x as u16;
-        x = x + wide16(v[h]) - wide16(y[h]);
-        h += 1;
+        x = x + usize::from(v[h]) - usize::from(y[h]);
     }
 }
 
@@ -49,16 +43,12 @@ pub fn coefficients(g: Grid, v: &[u16], y: &[u16; 16]) -> [u16; 16]
     ensures { (length result ≡ 16) × ((k : ℕ) → k < g.indices
         → at result k ≡ at (coefficients_of (started_on g v.now) (take g.indices y.now)) k) }
 {
-    let firsts = g.firsts;
-    let sizes = g.sizes;
     let mut list = [0u16; 16];
-    let mut j: usize = 0;
-    while j < g.blocks {
-        let first = wide(firsts[j]);
-        let end = first + wide(sizes[j]);
+    for j in 0..g.blocks {
+        let first = usize::from(g.firsts[j]);
+        let end = first + usize::from(g.sizes[j]);
         let from = first_of(v, y, first, end);
         put_block(&mut list, v, y, first, end, from);
-        j += 1;
     }
     list
 }

@@ -3,32 +3,27 @@ ghost use Rattle.std.specs.Prelude.{cond, ◌≡◌, ◌+◌, ◌≤◌, eqb, le
 ghost use Rattle.grid.specs.Made.{IsMade};
 ghost use Rattle.walk_recogniser.specs.Pieces.{SetsOf, IsFree};
 
-use crate::FoundSets;
-use arrays::{add, has, in_neither, wide32, without};
-use grid::{Grid, wide};
+use crate::Sets;
+use arrays::{add, has, in_neither, without};
+use grid::Grid;
 
 // T has the first n indices of the order, where these are below m and all different; U has what T leaves of the set
 // `zeros`.
-pub fn sets_of(order: &[u32; 16], n: usize, m: usize, zeros: u16) -> FoundSets
+pub fn sets_of(order: &[u32; 16], n: usize, m: usize, zeros: u16) -> Option<Sets>
     requires { (n ≤ 16) × (m ≤ 16) × (length order.now ≡ 16) }
     ensures { SetsOf order.now n m zeros result }
 {
     let mut t: u16 = 0;
     let mut u = zeros;
-    let mut k: usize = 0;
-    while k < n {
-        let h = wide32(order[k]);
-        if m <= h {
-            return FoundSets { is: false, t, u };
-        }
-        if has(t, h) {
-            return FoundSets { is: false, t, u };
+    for &index in &order[..n] {
+        let h = index as usize;
+        if m <= h || has(t, h) {
+            return None;
         }
         t = add(t, h);
         u = without(u, h);
-        k += 1;
     }
-    FoundSets { is: true, t, u }
+    Some(Sets { t, u })
 }
 
 // An index of block b in neither set is met, the first `met` blocks having one: how many of the first have one now.
@@ -36,10 +31,7 @@ fn met_in(b: u8, met: usize) -> usize
     requires { met ≤ 16 }
     ensures { result ≡ cond (eqb b met) (met + 1) met }
 {
-    if wide(b) == met {
-        return met + 1;
-    }
-    met
+    if usize::from(b) == met { met + 1 } else { met }
 }
 
 // Whether every block has an index in neither set, and each such index has coefficient 0. The blocks are met in order:
@@ -48,18 +40,14 @@ pub fn is_free(g: Grid, c: &[u16; 16], t: u16, u: u16) -> bool
     requires { IsMade g }
     ensures { IsFree g c.now t u result }
 {
-    let m = g.indices;
-    let block = g.block;
     let mut met: usize = 0;
-    let mut h: usize = 0;
-    while h < m {
+    for h in 0..g.indices {
         if in_neither(t, u, h) {
             if c[h] != 0 {
                 return false;
             }
-            met = met_in(block[h], met);
+            met = met_in(g.block[h], met);
         }
-        h += 1;
     }
     met == g.blocks
 }

@@ -3,7 +3,7 @@
 // asks.
 #![tactic(auto)]
 
-ghost use Rattle.std.specs.Prelude.{false, ◌≡◌, take};
+ghost use Rattle.std.specs.Prelude.{◌≡◌, take};
 ghost use Rattle.grid.specs.Made.{shape};
 ghost use Rattle.walk_recogniser.specs.Kept.{CanRecognise, Recognised};
 ghost use Rattle.walk_recogniser.specs.Pieces.{bare_mark, started_on};
@@ -20,28 +20,16 @@ use points::mark_points;
 pub use points::read_labels;
 use positions::ENTRIES;
 
-// T and U as masks, where there are such sets.
+// T and U as masks.
 #[derive(Clone, Copy)]
-pub struct FoundSets {
-    pub is: bool,
+pub struct Sets {
     pub t: u16,
     pub u: u16,
 }
 
-// Nothing is kept: what stands beside a no.
-fn nothing() -> FoundSets
-    ensures { result.is ≡ false }
-{
-    FoundSets {
-        is: false,
-        t: 0,
-        u: 0,
-    }
-}
-
 // Recognises the first n + 1 points of a first point and an order, and puts the first point's coefficients and the
 // positions of all points, in marks without labels, into their arrays. Where they are none, what the two arrays hold is
-// free: some of these numbers may stand there, and a caller that is told no reads neither.
+// free: some of these numbers may stand there, and a caller that is told None reads neither.
 pub fn recognise(
     g: Grid,
     binomials: &[u16; ENTRIES],
@@ -53,7 +41,7 @@ pub fn recognise(
     n: usize,
     list: &mut [u16; 16],
     marks: &mut [u32; 16],
-) -> FoundSets
+) -> Option<Sets>
     requires { CanRecognise g binomials.now start.now previous.now sizes.now first.now order.now n
         marks.old }
     ensures { Recognised (started_on g start.now) (bare_mark (shape g))
@@ -61,22 +49,18 @@ pub fn recognise(
         list.new marks.new result }
 {
     let m = g.indices;
-    let y = *first;
-    if !g.is_grid_point(&y[..m]) {
-        return nothing();
+    if !g.is_grid_point(&first[..m]) {
+        return None;
     }
-    let sets = sets_of(order, n, m, zeros(first, m));
-    if !sets.is {
-        return nothing();
-    }
+    let sets = sets_of(order, n, m, zeros(first, m))?;
     *list = coefficients(g, start, first);
     if !is_free(g, list, sets.t, sets.u) {
-        return nothing();
+        return None;
     }
     if !mark_points(
         g, binomials, previous, sizes, first, sets.u, order, n, marks,
     ) {
-        return nothing();
+        return None;
     }
-    sets
+    Some(sets)
 }

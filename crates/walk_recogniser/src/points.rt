@@ -5,8 +5,8 @@ ghost use Rattle.rules.specs.Ready.{IndicesBelow};
 ghost use Rattle.rules.specs.Moves.{first_outside};
 ghost use Rattle.walk_recogniser.specs.Pieces.{CanMark, CanReadLabels, IsMark, LabelsPut, Marked, OnGrid};
 
-use arrays::{first_outside, position_at, wide32};
-use grid::{Grid, wide16};
+use arrays::{first_outside, position_at};
+use grid::Grid;
 use label_table::byte_at;
 use positions::ENTRIES;
 
@@ -37,17 +37,15 @@ pub fn mark_points(
     ensures { Marked g first.now order.now n marks.new result }
 {
     let mut steps = [16u16; 16];
-    let mut k: usize = 0;
-    while k < n {
+    for k in 0..n {
         marks[k] = mark_at(g, binomials, first, &steps);
-        let h = wide32(order[k]);
+        let h = order[k] as usize;
         let b = first_outside(previous, sizes, u, h);
-        if wide16(first[b]) + wide16(steps[b]) <= 16 {
+        if usize::from(first[b]) + usize::from(steps[b]) <= 16 {
             return false;
         }
-        steps[h] = steps[h] + 1;
-        steps[b] = steps[b] - 1;
-        k += 1;
+        steps[h] += 1;
+        steps[b] -= 1;
     }
     marks[n] = mark_at(g, binomials, first, &steps);
     true
@@ -58,11 +56,8 @@ pub fn read_labels(table: &[u8], n: usize, marks: &mut [u32; 16])
     requires { CanReadLabels table.now marks.old n }
     ensures { LabelsPut table.now n marks.old marks.new }
 {
-    let mut k: usize = 0;
-    while k <= n {
+    for k in 0..=n {
         let at = position_at(marks, n, k);
-        let label = byte_at(table, at) as u32;
-        marks[k] = marks[k] + label;
-        k += 1;
+        marks[k] += u32::from(byte_at(table, at));
     }
 }

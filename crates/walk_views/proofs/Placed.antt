@@ -29,7 +29,7 @@ use Rattle.path_laws.proofs.IndexSets.{no-empty}
 use Rattle.path_laws.proofs.LinkSymmetry.{parts}
 use Rattle.questions.proofs.Answers.{asked-next, asked-no}
 use Rattle.questions.specs.Questions.{ask, first_no}
-use Rattle.walk_recogniser.specs.declared.FoundSets.{FoundSets}
+use Rattle.walk_recogniser.specs.declared.Sets.{Sets}
 use Rattle.rules.proofs.StatePoints.{all-points, ready-point}
 use Rattle.rules.specs.Read.{mark_of, numbers_from, points_from}
 use Rattle.rules.specs.Moves.{State}
@@ -73,7 +73,7 @@ module _ (g : Grid) (w : WalkStruct) (labels : List ℕ) where
     points-there t = let z : first_no (place_questions q s) ≡ 0 = asked-next (table_questions q) (ask 20
         (is_place q s) ∷ []) refl asked ∙ (rw t) in rw z
 
-module _ {g : GridStruct} {w : WalkStruct} {labels first order : List ℕ} {n : ℕ} {sets : FoundSets}
+module _ {g : GridStruct} {w : WalkStruct} {labels first order : List ℕ} {n : ℕ} {sets : Sets}
     (C : CanPoint g w labels first order n sets)
     (sizes : List ℕ) (is : (h : ℕ) → h < g.indices → at sizes h ≡ size (shape g) (block_of (shape g) h)) where
   abbrev p : Problem

@@ -10,7 +10,7 @@ use Rattle.place.specs.Problem.{Problem}
 use Rattle.place.specs.Questions.{table_questions}
 use Rattle.questions.specs.Questions.{Question, ask, first_no}
 use Rattle.walk_recogniser.specs.Kept.{Seen}
-use Rattle.walk_recogniser.specs.declared.FoundSets.{FoundSets}
+use Rattle.walk_recogniser.specs.declared.Sets.{Sets}
 use Rattle.rules.specs.Read.{mark_of}
 use Rattle.walks.specs.Walk.{over}
 use Rattle.walk_places.specs.Placing.{CanSee}
@@ -42,7 +42,7 @@ points_of w labels = points_on (walk_grid w) w labels
 
 -- the walk passes questions 1 to 7, and its present place is one
 pub record CanPoint (g : GridStruct) (w : WalkStruct) (labels first order : List ℕ) (n : ℕ)
-    (sets : FoundSets) : Type 0 where
+    (sets : Sets) : Type 0 where
   pub sees : CanSee g w labels first order n
   pub present : place_of (shape g) w.present ≡ points_by g first order n
   pub place : is_place (table_on g w labels) (points_by g first order n) ≡ true

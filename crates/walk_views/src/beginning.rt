@@ -21,11 +21,7 @@ fn copied(numbers: &[u16]) -> [u16; 16]
     ensures { result ≡ front numbers.now (replicate 16 0) }
 {
     let mut a = [0u16; 16];
-    let mut k: usize = 0;
-    while k < numbers.len() {
-        a[k] = numbers[k];
-        k += 1;
-    }
+    a[..numbers.len()].copy_from_slice(numbers);
     a
 }
 
@@ -33,13 +29,11 @@ fn copied(numbers: &[u16]) -> [u16; 16]
 fn no_walk() -> Walk
     ensures { result ≡ no_walk }
 {
-    let present = none();
-    let before = none();
     Walk {
         places: 0,
         labels_read: 0,
-        present,
-        before,
+        present: none(),
+        before: none(),
         start: [0u16; 16],
         divisions: [0u16; 6],
         sizes: [0u8; 6],
@@ -69,9 +63,11 @@ fn start_on(g: Grid, start: &[u16], labels: &[u8]) -> Walk
     let y = copied(start);
     let mut carried = [0u8; 16];
     carried[0] = label_of(g, &y, labels);
-    let divisions = g.divisions;
-    let sizes = g.sizes;
-    let before = none();
+    let Grid {
+        divisions,
+        sizes,
+        ..
+    } = g;
     let present = Place {
         first: y,
         order: [0u32; 16],
@@ -81,7 +77,7 @@ fn start_on(g: Grid, start: &[u16], labels: &[u8]) -> Walk
         places: 1,
         labels_read: 1,
         present,
-        before,
+        before: none(),
         start: y,
         divisions,
         sizes,
@@ -97,17 +93,21 @@ pub fn at_start(sizes: &[u8], divisions: &[u16], start: &[u16], labels: &[u8]) -
         (lent sizes.now divisions.now) start.now labels.now }
 {
     let made = Grid::new(sizes, divisions);
-    let code = made.code;
-    let g = made.grid;
-    if code != 0 {
-        let walk = no_walk();
-        return Begun { code, walk };
+    if made.code != 0 {
+        return Begun {
+            code: made.code,
+            walk: no_walk(),
+        };
     }
-    let number = first_table_no(g, start, labels);
+    let number = first_table_no(made.grid, start, labels);
     if number != 0 {
-        let walk = no_walk();
-        return Begun { code: number, walk };
+        return Begun {
+            code: number,
+            walk: no_walk(),
+        };
     }
-    let walk = start_on(g, start, labels);
-    Begun { code: 0, walk }
+    Begun {
+        code: 0,
+        walk: start_on(made.grid, start, labels),
+    }
 }

@@ -31,20 +31,5 @@ pub struct PlacePoints {
 pub fn turned(w: Walk, before: Place) -> Walk
     ensures { result ≡ turned_as w before }
 {
-    let present = w.present;
-    let start = w.start;
-    let divisions = w.divisions;
-    let sizes = w.sizes;
-    let carried = w.carried;
-    Walk {
-        places: w.places,
-        labels_read: w.labels_read,
-        present,
-        before,
-        start,
-        divisions,
-        sizes,
-        blocks: w.blocks,
-        carried,
-    }
+    Walk { before, ..w }
 }

@@ -8,12 +8,12 @@ ghost use Rattle.walk_views.specs.Viewed.{CanPoint, no_points, points_at, points
 
 use crate::PlacePoints;
 use arrays::block_sizes;
-use grid::{Grid, wide};
+use grid::Grid;
 use moves::{Status, put_points};
 use walk_calls::{first_table_no, grid_in};
 use walk_next::spare;
 use walk_places::{Walk, is_kept, seen};
-use walk_recogniser::FoundSets;
+use walk_recogniser::Sets;
 
 // A refusal.
 fn no_points(code: u8) -> PlacePoints
@@ -34,13 +34,11 @@ fn put(
     first: &[u16; 16],
     order: &[u32; 16],
     n: usize,
-    sets: FoundSets,
+    sets: Sets,
 ) -> PlacePoints
     requires { CanPoint g w labels.now first.now order.now n sets }
     ensures { result ≡ points_at (shape g) w }
 {
-    let m = g.indices;
-    let previous = g.previous;
     let sizes = block_sizes(g);
     let s = Status {
         rule: 1,
@@ -50,7 +48,16 @@ fn put(
         active: 0,
     };
     let mut numbers = [0u16; 256];
-    let count = put_points(&mut numbers, &previous, &sizes, first, order, s, m, 0);
+    let count = put_points(
+        &mut numbers,
+        &g.previous,
+        &sizes,
+        first,
+        order,
+        s,
+        g.indices,
+        0,
+    );
     PlacePoints {
         code: 0,
         count,
@@ -63,25 +70,30 @@ fn points_on(g: Grid, w: Walk, labels: &[u8]) -> PlacePoints
     requires { IsMade g × (first_no (table_questions (table_on g w labels.now)) ≡ 0) }
     ensures { result ≡ points_on (shape g) w labels.now }
 {
-    let m = g.indices;
-    let present = w.present;
-    if !is_kept(present, m) {
+    let here = w.present;
+    if !is_kept(here, g.indices) {
         return no_points(20);
     }
-    let first = present.first;
-    let order = present.order;
-    let n = wide(present.count) - 1;
+    let n = usize::from(here.count) - 1;
     let mut list = [0u16; 16];
     let mut marks = [0u32; 16];
-    let sets = seen(g, w, labels, &first, &order, n, &mut list, &mut marks);
-    if !sets.is {
+    let Some(sets) = seen(
+        g,
+        w,
+        labels,
+        &here.first,
+        &here.order,
+        n,
+        &mut list,
+        &mut marks,
+    ) else {
         return no_points(20);
-    }
+    };
     let spared = spare(&marks, n, sets.t);
     if spared.seen != sets.t {
         return no_points(20);
     }
-    put(g, w, labels, &first, &order, n, sets)
+    put(g, w, labels, &here.first, &here.order, n, sets)
 }
 
 // Gives the points of the present place: questions 1 to 7 are put, and 20 of the place alone.
@@ -89,14 +101,11 @@ pub fn points(w: Walk, labels: &[u8]) -> PlacePoints
     ensures { result ≡ points_of w labels.now }
 {
     let made = grid_in(w);
-    let code = made.code;
-    let g = made.grid;
-    if code != 0 {
-        return no_points(code);
+    if made.code != 0 {
+        return no_points(made.code);
     }
-    let start = w.start;
-    let m = g.indices;
-    let number = first_table_no(g, &start[..m], labels);
+    let g = made.grid;
+    let number = first_table_no(g, &w.start[..g.indices], labels);
     if number != 0 {
         return no_points(number);
     }

@@ -10,5 +10,4 @@ returns-then-n-k c = let a = c.args in
 
 pub returns : goal.returns
 returns c = let a = c.args in
-    c.wide32.ensures ∙ c.label_in.ensures ∙ label-front a.marks.now a.n c.requires.0 c.requires.2
-    a.k (omega (arith, c.if-n-k.false))
+    c.label_in.ensures ∙ label-front a.marks.now a.n c.requires.0 c.requires.2 a.k (omega arith)

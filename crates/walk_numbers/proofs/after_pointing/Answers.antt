@@ -5,4 +5,4 @@ use Rattle.walk_numbers.proofs.after_pointing.Goals as goal
 
 pub returns : goal.returns
 unfolding after_pointing
-returns c = c.unanswered.ensures ∙ rw c.points-p.ensures
+returns c = c.unanswered.ensures ∙ rw c.points-code.ensures

@@ -5,4 +5,4 @@ use Rattle.walk_numbers.proofs.after_showing.Goals as goal
 
 pub returns : goal.returns
 unfolding after_showing
-returns c = c.answered_by.ensures ∙ rw c.preview-p.ensures
+returns c = c.answered_by.ensures ∙ rw c.preview-answer.ensures

@@ -1,8 +1,6 @@
 -- `moving::call_on` meets its contract. Assumes nothing.
+use mathlib.Core.Logic.{⊎_elim}
 use mathlib.Core.Path.{◌≡◌, sym, ◌∙◌}
-use borrow.Author.Rules.{rules}
-use lib.ListN.{length, length-take}
-use native.Mathlib.Omega.{arith}
 use Rattle.grid.proofs.Fields.{indices-few}
 use Rattle.grid.specs.Made.{shape}
 use Rattle.place.specs.Questions.{table_questions}
@@ -13,43 +11,31 @@ use Rattle.walk_calls.proofs.Later.{walk-asked}
 use Rattle.walk_places.specs.Placing.{GoesTo}
 use Rattle.walk_places.specs.Walks.{table_on}
 use Rattle.walk_calls.proofs.moving.call_on.Goals as goal
-use Rattle.walk_calls.proofs.moving.call_on.Goals.{After-first_table_no-number, In-Moved, Start}
+use Rattle.walk_calls.proofs.moving.call_on.Goals.{After-first_table_no-number, In-Moved}
 
--- the numbers of the walk's start
-start-long : (c : Start) → length c.args.w.start ≡ 16
-start-long c = search rules
-
-pub slice_bounds-start-end : goal.slice_bounds-start-end
-slice_bounds-start-end c =
-    omega (arith, start-long (goal.at.slice_bounds-start-end c).Start, indices-few c.args.g c.requires)
-
-pub slice_bounds-first_table_no-end : goal.slice_bounds-first_table_no-end
-slice_bounds-first_table_no-end c =
-    simp length-take (omega (arith, start-long (goal.at.slice_bounds-first_table_no-end c).Start, indices-few c.args.g c.requires))
-
-pub first_table_no-number-requires : goal.first_table_no-number-requires
-first_table_no-number-requires c = c.requires
+pub shared_ref_as_front-first_table_no : goal.shared_ref_as_front-first_table_no
+shared_ref_as_front-first_table_no c = indices-few c.args.g c.requires
 
 asked : (c : After-first_table_no-number) → (let a = c.args in
     first_no (table_questions (table_on a.g a.w a.labels.now)) ≡ c.first_table_no-number.result)
-asked c =
-    walk-asked c.args.g c.args.w c.args.labels.now c.requires ∙ sym c.first_table_no-number.ensures
+asked c = walk-asked c.args.g c.args.w c.args.labels.now c.requires ∙ sym c.first_table_no-number.ensures
 
 pub returns-then-number-ne0 : goal.returns-then-number-ne0
 returns-then-number-ne0 c =
     let a = c.args in
-    c.unmoved.ensures
-    ∙ table-refused (shape a.g) a.w a.labels.now c.first_table_no-number.result c.if-number-ne0.true (asked (goal.at.returns-then-number-ne0 c).After-first_table_no-number)
+    c.unmoved.ensures ∙ table-refused (shape a.g) a.w a.labels.now c.first_table_no-number.result c.if-number-ne0.true
+    (asked (goal.at.returns-then-number-ne0 c).After-first_table_no-number)
 
-pub next_on-next-requires : goal.next_on-next-requires
-next_on-next-requires c = (c.requires, asked (goal.at.next_on-next-requires c).After-first_table_no-number ∙ c.if-number-ne0.false)
+pub next_on-answer-requires : goal.next_on-answer-requires
+next_on-answer-requires c =
+    (c.requires, asked (goal.at.next_on-answer-requires c).After-first_table_no-number ∙ c.if-number-ne0.false)
 
 going : (c : In-Moved) → (let a = c.args in
-    GoesTo (shape a.g) a.w a.labels.now c.next_on-next.result.place)
+    GoesTo (shape a.g) a.w a.labels.now c.next_on-answer.result.place)
 going c =
     let a = c.args in
-    goes_to (shape a.g) a.w a.labels.now c.next_on-next.result c.next_on-next.ensures
-    c.in-Moved.field-0 c.in-Moved.is
+    let next = c.next_on-answer in
+    goes_to (shape a.g) a.w a.labels.now next.result next.ensures c.in-Moved.field-0 c.in-Moved.is
 
 pub carried_to-requires : goal.carried_to-requires
 carried_to-requires c = (c.requires, going c)
@@ -61,21 +47,16 @@ moved_to-walk-requires c =
 
 pub returns-in-Moved : goal.returns-in-Moved
 returns-in-Moved c =
-    let here = (goal.at.returns-in-Moved c).In-Moved in
+    let to = going (goal.at.returns-in-Moved c).In-Moved in
     let a = c.args in
     let on = c.carried_to in
-    rw c.moved_to-walk.ensures
-    (call_moved (shape a.g) a.w a.labels.now c.next_on-next.result c.next_on-next.ensures (going here)
-    on.result (on.ensures (going here) a.labels.now (lent_completes c.requires (going here))))
+    let next = c.next_on-answer in
+    rw c.moved_to-walk.ensures (call_moved (shape a.g) a.w a.labels.now next.result next.ensures to on.result
+    (on.ensures to a.labels.now (lent_completes c.requires to)))
 
 pub returns-in-Refused : goal.returns-in-Refused
 returns-in-Refused c =
     let a = c.args in
-    call_refuses (shape a.g) a.w a.labels.now c.next_on-next.result c.next_on-next.ensures
-    c.in-Refused.field-0 c.in-Refused.is
-
-pub returns-in-Ended : goal.returns-in-Ended
-returns-in-Ended c =
-    let a = c.args in
-    call_ended (shape a.g) a.w a.labels.now c.next_on-next.result c.next_on-next.ensures _ _ _
-    c.in-Ended.is
+    let next = c.next_on-answer in
+    ⊎_elim (λ r. call_refuses (shape a.g) a.w a.labels.now next.result next.ensures r.0 r.1)
+    (λ r. call_ended (shape a.g) a.w a.labels.now next.result next.ensures r.0 r.1 r.2 r.3) c.in-Refused.is

@@ -2,13 +2,9 @@
 use Rattle.walk_calls.proofs.CarriedTo.{can-carry, carries-to}
 use Rattle.walk_calls.proofs.moving.carried_to.Goals as goal
 
-pub both_placed-b-requires : goal.both_placed-b-requires
-both_placed-b-requires c = (c.requires.0, (c.args.labels.now, c.requires.1))
-
 pub carry-requires : goal.carry-requires
-carry-requires c = can-carry c.requires.0 c.requires.1 (c.both_placed-b.ensures
-    c.args.labels.now c.requires.1)
+carry-requires c = can-carry c.requires.0 c.requires.1 (c.both_placed-b.ensures c.args.labels.now c.requires.1)
 
 pub returns : goal.returns
-returns c = λ G full F. carries-to c.requires.0 G (c.both_placed-b.ensures
-    c.args.labels.now G) full F c.carry.result c.carry.ensures
+returns c = λ G full F. carries-to c.requires.0 G (c.both_placed-b.ensures c.args.labels.now G) full F c.carry.result
+    c.carry.ensures

@@ -1,25 +1,14 @@
--- `keeping::cut` meets its contract. The invariant: the first k numbers stand at the front. The measure: the numbers
--- left. Assumes nothing.
-use mathlib.Core.Path.{◌≡◌, sym}
-use lib.ListN.{replicate}
-use Rattle.combinatorics.proofs.Fronts.{front-none, front-copy}
+-- `keeping::cut` meets its contract. Assumes nothing.
+use mathlib.Core.Path.{◌≡◌}
+use lib.ListN.{length, take}
+use lib.Seq.{length-take-le}
+use Rattle.combinatorics.specs.Front.{front}
 use native.Mathlib.Omega.{arith}
 use Rattle.walk_places.proofs.keeping.cut.Goals as goal
 
-pub loop-k-init : goal.loop-k-init
-loop-k-init c = (sym (front-none (replicate 16 0)), omega arith, c.requires.0, c.requires.1)
-
-pub loop-k-preserved : goal.loop-k-preserved
-loop-k-preserved c =
-    let l = c.loop-k in (
-      rw l.invariant.0 (front-copy c.args.order.now (replicate 16 0) l.k (omega arith)
-          (omega arith)),
-      omega arith,
-      l.invariant.2,
-      l.invariant.3,
-    )
-
 pub returns : goal.returns
-returns c = let l = c.loop-k in
-    let all-n : c.args.n ≡ l.k = omega arith in
-    rw all-n l.invariant.0
+unfolding front
+returns c =
+    let a = c.args in
+    let long : length (take a.n a.order.now) ≡ a.n = length-take-le a.n a.order.now (omega arith) in
+    rw (c.copy_from_slice.ensures.after, long)

@@ -1,6 +1,6 @@
 -- `placing::placed` meets its contract. Assumes nothing.
-use mathlib.Core.Path.{◌≡◌, refl, subst}
-use lib.ListN.{length, take, length-take}
+use mathlib.Core.Path.{refl, subst}
+use lib.ListN.{take}
 use Rattle.grid.proofs.Fields.{indices-few, made-indices, made-previous, previous-low}
 use Rattle.grid_points.specs.Grid.{num_indices}
 use Rattle.grid.specs.Made.{shape}
@@ -8,7 +8,6 @@ use Rattle.walk_recogniser.proofs.Together.{with_table}
 use Rattle.walk_recogniser.specs.Kept.{Recognised}
 use Rattle.walk_recogniser.specs.Pieces.{bare_mark, started_on}
 use Prim.Native.Nat.{ℕ}
-use borrow.Author.Rules.{rules}
 use native.Mathlib.Omega.{arith}
 use Rattle.walk_places.proofs.placing.placed.Goals as goal
 
@@ -18,23 +17,8 @@ block_sizes-sizes-requires c = c.requires.0.made
 pub binomials-requires : goal.binomials-requires
 binomials-requires c = (c.requires.0.made, refl)
 
-pub slice_bounds-start-end : goal.slice_bounds-start-end
-slice_bounds-start-end c =
-    let z : length c.args.w.start ≡ 16 = search rules in
-    omega (
-      arith,
-      indices-few c.args.g
-          c.requires.0.made,
-    )
-
-pub slice_bounds-recognise-end : goal.slice_bounds-recognise-end
-slice_bounds-recognise-end c =
-    let z : length c.args.w.start ≡ 16 = search rules in
-    simp length-take (omega (
-      arith,
-      indices-few c.args.g
-          c.requires.0.made,
-    ))
+pub shared_ref_as_front-recognise : goal.shared_ref_as_front-recognise
+shared_ref_as_front-recognise c = indices-few c.args.g c.requires.0.made
 
 pub recognise-requires : goal.recognise-requires
 recognise-requires c = let C = c.requires.0 in
@@ -56,7 +40,7 @@ recognise-requires c = let C = c.requires.0 in
 
 pub returns : goal.returns
 returns c = λ labels. let a = c.args in
-    with_table a.g (take (num_indices (shape a.g)) a.w.start) labels
+    with_table a.g (take (num_indices (shape a.g)) a.w.start) labels _ _ _ _ _ _
     (subst (λ (m : ℕ). Recognised (started_on a.g (take m a.w.start)) (bare_mark (shape a.g))
     (take a.g.indices a.first.now) (take a.n a.order.now)
     c.recognise.new.list c.recognise.new.marks

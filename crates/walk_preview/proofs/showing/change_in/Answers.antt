@@ -28,12 +28,12 @@ module _ (w : WalkStruct) (made : Made) (is : GridIn (walk_grid w) made) (labels
 pub change_on-requires : goal.change_on-requires
 change_on-requires c = let a = c.args in (
   c.requires.0,
-  can_show a.w c.grid_in-made.result c.grid_in-made.ensures c.requires.0 a.next
+  can_show a.w c.grid_in.result c.grid_in.ensures c.requires.0 a.next
       a.rule c.requires.1,
 )
 
 pub returns : goal.returns
-returns c = λ labels M. let a = c.args in let made = c.grid_in-made in
+returns c = λ labels M. let a = c.args in let made = c.grid_in in
     c.change_on.ensures labels (can_show a.w made.result made.ensures labels a.next a.rule M)
     ∙ ap (λ (g : Grid). change_shown (preview (walk_on g a.w) labels))
     (same-grid a.w made.result made.ensures labels a.next a.rule M)

@@ -1,7 +1,7 @@
 -- `coefficients::coefficients` meets its contract. The invariant: the coefficients of the first j blocks are stored.
--- The measure: the blocks left. Assumes nothing.
+-- Assumes nothing.
 use mathlib.Core.Path.{◌≡◌}
-use Prim.Native.Nat.{ℕ, ◌-◌, ◌≤◌, ◌<◌}
+use Prim.Native.Nat.{ℕ, ◌<◌}
 use lib.ListN.{length, take}
 use Rattle.grid_points.specs.Grid.{at, first_index}
 use Rattle.grid.specs.Made.{shape}
@@ -10,9 +10,6 @@ use Rattle.walk_recogniser.specs.Pieces.{started_on}
 use Rattle.walk_recogniser.proofs.coefficients.coefficients.Given as goal
 
 abbrev pub invariant-loop-j : goal.invariant-loop-j
-invariant-loop-j l = (l.j ≤ l.g.blocks) × (length l.list ≡ 16) × (l.firsts ≡ l.g.firsts)
-    × (l.sizes ≡ l.g.sizes)
-    × ((k : ℕ) → k < first_index (shape l.g) l.j → at l.list k ≡ at (coefficients_of (started_on l.g l.v) (take l.g.indices l.y)) k)
-
-abbrev pub decreases-loop-j : goal.decreases-loop-j
-decreases-loop-j l = l.g.blocks - l.j
+invariant-loop-j l = (length l.list ≡ 16)
+    × ((k : ℕ) → k < first_index (shape l.g) l.j
+    → at l.list k ≡ at (coefficients_of (started_on l.g l.v) (take l.g.indices l.y)) k)

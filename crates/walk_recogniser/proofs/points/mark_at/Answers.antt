@@ -5,30 +5,20 @@ use Rattle.walk_recogniser.specs.Pieces.{point_with}
 use native.Mathlib.Omega.{arith}
 use Rattle.walk_recogniser.proofs.points.mark_at.Goals as goal
 
-pub position-at-requires : goal.position-at-requires
-position-at-requires c = record { made = (c.requires.0.made, c.requires.0.filled); can_take_steps = (c.requires.1.can, c.requires.1.point) }
-
 pub overflow_cast-result : goal.overflow_cast-result
 overflow_cast-result c = let a = c.args in
+    let made = c.requires.0.made in
     omega (
       arith,
-      c.position-at.ensures,
-      position-low a.g c.requires.0.made
-          (point_with a.g a.first.now a.steps.now) c.requires.1.point,
-      (made-accepted a.g
-          c.requires.0.made).few_points,
+      position-low a.g made (point_with a.g a.first.now a.steps.now) c.requires.1.point,
+      (made-accepted a.g made).few_points,
     )
 
 pub overflow_mul-result : goal.overflow_mul-result
 overflow_mul-result c = let a = c.args in
+    let made = c.requires.0.made in
     omega (
       arith,
-      c.position-at.ensures,
-      position-low a.g c.requires.0.made
-          (point_with a.g a.first.now a.steps.now) c.requires.1.point,
-      (made-accepted a.g
-          c.requires.0.made).few_points,
+      position-low a.g made (point_with a.g a.first.now a.steps.now) c.requires.1.point,
+      (made-accepted a.g made).few_points,
     )
-
-pub returns : goal.returns
-returns c = record { is = omega (arith, c.position-at.ensures) }

@@ -31,4 +31,4 @@ returns c =
     let y = c.copied-y in
     let l = c.label_of in
     start-made a.g c.requires.0 a.start.now a.labels.now c.requires.1 y.result y.ensures
-    c.none-before.result c.none-before.ensures _ l.result l.ensures refl
+    c.none.result c.none.ensures _ l.result l.ensures refl

@@ -1,9 +1,6 @@
 -- `pointing::points` meets its contract. Assumes nothing.
-use borrow.Author.Rules.{rules}
 use mathlib.Core.List.{[], ◌∷◌}
 use mathlib.Core.Path.{◌≡◌, sym, ap, ◌∙◌}
-use lib.ListN.{length, length-take}
-use native.Mathlib.Omega.{arith}
 use Rattle.grid.proofs.Fields.{indices-few}
 use Rattle.grid_points.specs.Grid.{Grid}
 use Rattle.grid.specs.Made.{IsMade, shape}
@@ -18,51 +15,43 @@ use Rattle.walk_views.proofs.Placed.{points-refused}
 use Rattle.walk_views.specs.Viewed.{points_on}
 use Rattle.walk_places.specs.Walks.{table_on, walk_grid, walk_of}
 use Rattle.walk_views.proofs.pointing.points.Goals as goal
-use Rattle.walk_views.proofs.pointing.points.Goals.{After-first_table_no-number, Else-code-ne0}
+use Rattle.walk_views.proofs.pointing.points.Goals.{After-first_table_no-number, Else-made-ne0}
 
-pub returns-then-code-ne0 : goal.returns-then-code-ne0
-returns-then-code-ne0 c =
+pub returns-then-made-ne0 : goal.returns-then-made-ne0
+returns-then-made-ne0 c =
     let a = c.args in
     let made = c.grid_in-made in
     let p = over (walk_of a.w) a.labels.now in
     c.no_points.ensures
-    ∙ points-refused (walk_grid a.w) a.w a.labels.now made.result.code c.if-code-ne0.true
+    ∙ points-refused (walk_grid a.w) a.w a.labels.now made.result.code c.if-made-ne0.true
     (asked-no (grid_questions (walk_grid a.w))
     (question5 (walk_grid a.w) (walk_of a.w).start ∷ question6 p ∷ question7 p ∷ []) made.result.code
-    c.if-code-ne0.true (sym made.ensures.code))
+    c.if-made-ne0.true (sym made.ensures.code))
 
-abbrev grid : Else-code-ne0 → GridStruct
+abbrev grid : Else-made-ne0 → GridStruct
 grid c = c.grid_in-made.result.grid
 
-is_made : (c : Else-code-ne0) → IsMade (grid c) × (shape (grid c) ≡ walk_grid c.args.w)
-is_made c = c.grid_in-made.ensures.is c.if-code-ne0.false
+is_made : (c : Else-made-ne0) → IsMade (grid c) × (shape (grid c) ≡ walk_grid c.args.w)
+is_made c = c.grid_in-made.ensures.is c.if-made-ne0.false
 
-start-long : (c : Else-code-ne0) → length c.args.w.start ≡ 16
-start-long c = search rules
-
-pub slice_bounds-start-end : goal.slice_bounds-start-end
-slice_bounds-start-end c =
-    let here = (goal.at.slice_bounds-start-end c).Else-code-ne0 in
-    omega (arith, start-long here, indices-few (grid here) (is_made here).0)
-
-pub slice_bounds-first_table_no-end : goal.slice_bounds-first_table_no-end
-slice_bounds-first_table_no-end c =
-    let here = (goal.at.slice_bounds-first_table_no-end c).Else-code-ne0 in
-    simp length-take (omega (arith, start-long here, indices-few (grid here) (is_made here).0))
+pub shared_ref_as_front-first_table_no : goal.shared_ref_as_front-first_table_no
+shared_ref_as_front-first_table_no c =
+    let here = (goal.at.shared_ref_as_front-first_table_no c).Else-made-ne0 in
+    indices-few (grid here) (is_made here).0
 
 pub first_table_no-number-requires : goal.first_table_no-number-requires
-first_table_no-number-requires c = (is_made (goal.at.first_table_no-number-requires c).Else-code-ne0).0
+first_table_no-number-requires c = (is_made (goal.at.first_table_no-number-requires c).Else-made-ne0).0
 
 asked : (c : After-first_table_no-number) → (let a = c.args in
-    first_no (table_questions (table_on (grid (goal.at.After-first_table_no-number c).Else-code-ne0) a.w a.labels.now)) ≡ c.first_table_no-number.result)
+    first_no (table_questions (table_on (grid (goal.at.After-first_table_no-number c).Else-made-ne0) a.w a.labels.now)) ≡ c.first_table_no-number.result)
 asked c =
-    let here = (goal.at.After-first_table_no-number c).Else-code-ne0 in
+    let here = (goal.at.After-first_table_no-number c).Else-made-ne0 in
     let a = c.args in
     walk-asked (grid here) a.w a.labels.now (is_made here).0 ∙ sym c.first_table_no-number.ensures
 
 pub returns-then-number-ne0 : goal.returns-then-number-ne0
 returns-then-number-ne0 c =
-    let here = (goal.at.returns-then-number-ne0 c).Else-code-ne0 in
+    let here = (goal.at.returns-then-number-ne0 c).Else-made-ne0 in
     let a = c.args in
     c.no_points-then-number-ne0.ensures
     ∙ points-refused (shape (grid here)) a.w a.labels.now c.first_table_no-number.result c.if-number-ne0.true
@@ -70,9 +59,9 @@ returns-then-number-ne0 c =
     ∙ ap (λ (G : Grid). points_on G a.w a.labels.now) (is_made here).1
 
 pub points_on-requires : goal.points_on-requires
-points_on-requires c = ((is_made (goal.at.points_on-requires c).Else-code-ne0).0, asked (goal.at.points_on-requires c).After-first_table_no-number ∙ c.if-number-ne0.false)
+points_on-requires c = ((is_made (goal.at.points_on-requires c).Else-made-ne0).0, asked (goal.at.points_on-requires c).After-first_table_no-number ∙ c.if-number-ne0.false)
 
 pub returns : goal.returns
 returns c =
     let a = c.args in
-    c.points_on.ensures ∙ ap (λ (G : Grid). points_on G a.w a.labels.now) (is_made (goal.at.returns c).Else-code-ne0).1
+    c.points_on.ensures ∙ ap (λ (G : Grid). points_on G a.w a.labels.now) (is_made (goal.at.returns c).Else-made-ne0).1

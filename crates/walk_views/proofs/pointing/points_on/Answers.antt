@@ -1,5 +1,4 @@
 -- `pointing::points_on` meets its contract. Assumes nothing.
-use borrow.Author.Tests.{not-true, not-false}
 use borrow.Author.Rules.{rules}
 use mathlib.Core.Bool.{true}
 use mathlib.Core.Path.{◌≡◌, refl, sym, ◌∙◌}
@@ -15,7 +14,7 @@ use Rattle.walk_places.specs.Walks.{holds_numbers, place_of, table_on}
 use Rattle.walk_views.proofs.Placed.{no-place-held, points_none, points-there, present-is, view}
 use Rattle.walk_ways.specs.Standing.{points_kept}
 use Rattle.walk_views.proofs.pointing.points_on.Goals as goal
-use Rattle.walk_views.proofs.pointing.points_on.Goals.{After-wide-n, Else-spared-sets}
+use Rattle.walk_views.proofs.pointing.points_on.Goals.{After-from-n, Else-spared-sets}
 
 pub is_kept-requires : goal.is_kept-requires
 is_kept-requires c = indices-few c.args.g c.requires.0
@@ -28,16 +27,16 @@ returns-then-not-is_kept c =
     (no-place-held a.g a.w a.labels.now c.requires.0 c.requires.1
     (sym c.is_kept.ensures.0 ∙ c.if-not-is_kept.true))
 
-abbrev number : After-wide-n → ℕ
-number c = c.wide-n.result - 1
+abbrev number : After-from-n → ℕ
+number c = c.from-n.result - 1
 
-holds : (c : After-wide-n) → holds_numbers c.args.g.indices c.args.w.present ≡ true
+holds : (c : After-from-n) → holds_numbers c.args.g.indices c.args.w.present ≡ true
 holds c = sym c.is_kept.ensures.0 ∙ c.if-not-is_kept.false
 
-number_is : (c : After-wide-n) → number c ≡ pred c.args.w.present.count
-number_is c = omega (arith, c.wide-n.ensures)
+number_is : (c : After-from-n) → number c ≡ pred c.args.w.present.count
+number_is c = omega (arith, c.from-n.ensures)
 
-sees : (c : After-wide-n) → (let a = c.args in
+sees : (c : After-from-n) → (let a = c.args in
     CanSee a.g a.w a.labels.now a.w.present.first a.w.present.order (number c))
 sees c =
     let a = c.args in
@@ -45,7 +44,7 @@ sees c =
     let kept = c.is_kept.ensures in
     view a.g a.w a.labels.now asked.0 asked.1 (holds c) c.is_kept.ensures.1 c.is_kept.ensures.2 (number c) (number_is c)
 
-present : (c : After-wide-n) → (let a = c.args in
+present : (c : After-from-n) → (let a = c.args in
     place_of (shape a.g) a.w.present
     ≡ points_kept a.g a.w.present.first a.w.present.order (number c))
 present c =
@@ -58,32 +57,32 @@ present c =
 pub overflow_sub-n : goal.overflow_sub-n
 overflow_sub-n c =
     let a = c.args in
-    omega (arith, c.wide-n.ensures, count-some a.g.indices a.w.present (holds c))
+    omega (arith, c.from-n.ensures, count-some a.g.indices a.w.present (holds c))
 
-pub seen-sets-requires : goal.seen-sets-requires
-seen-sets-requires c = (sees (goal.at.seen-sets-requires c).After-wide-n, refl)
+pub seen-requires : goal.seen-requires
+seen-requires c = (sees (goal.at.seen-requires c).After-from-n, refl)
 
-pub returns-then-not-sets : goal.returns-then-not-sets
-returns-then-not-sets c =
-    let here = (goal.at.returns-then-not-sets c).After-wide-n in
+pub returns-in_default : goal.returns-in_default
+returns-in_default c =
+    let here = (goal.at.returns-in_default c).After-from-n in
     let a = c.args in
     let kept = not_kept_place (sees here)
-    (c.seen-sets.ensures.no (not-true _ c.if-not-sets.true))
+    c.in_default.ensures
     in
-    c.no_points-then-not-sets.ensures
+    c.no_points-in_default.ensures
     ∙ points_none (shape a.g) a.w a.labels.now c.requires.1 (rw (present here) kept)
 
 pub spare-spared-requires : goal.spare-spared-requires
 spare-spared-requires c =
-    let see = sees (goal.at.spare-spared-requires c).After-wide-n in
-    let seen = c.seen-sets.ensures.yes (not-false _ c.if-not-sets.false) in
+    let see = sees (goal.at.spare-spared-requires c).After-from-n in
+    let seen = c.in-Some.ensures in
     (see.few, seen.marks_long, labels-low see seen)
 
 pub returns-then-spared-sets : goal.returns-then-spared-sets
 returns-then-spared-sets c =
-    let here = (goal.at.returns-then-spared-sets c).After-wide-n in
+    let here = (goal.at.returns-then-spared-sets c).After-from-n in
     let a = c.args in
-    let seen = c.seen-sets.ensures.yes (not-false _ c.if-not-sets.false) in
+    let seen = c.in-Some.ensures in
     let no = not_all_place (sees here) seen c.spare-spared.ensures (search rules)
     (search rules) c.if-spared-sets.true in
     c.no_points-then-spared-sets.ensures
@@ -91,26 +90,26 @@ returns-then-spared-sets c =
 
 is-place : (c : Else-spared-sets) → (let a = c.args in
     is_place (table_on a.g a.w a.labels.now)
-    (points_kept a.g a.w.present.first a.w.present.order (number (goal.at.Else-spared-sets c).After-wide-n))
+    (points_kept a.g a.w.present.first a.w.present.order (number (goal.at.Else-spared-sets c).After-from-n))
     ≡ true)
 is-place c =
-    let seen = c.seen-sets.ensures.yes (not-false _ c.if-not-sets.false) in
-    all_seen (sees (goal.at.Else-spared-sets c).After-wide-n) seen c.spare-spared.ensures c.if-spared-sets.false
+    let seen = c.in-Some.ensures in
+    all_seen (sees (goal.at.Else-spared-sets c).After-from-n) seen c.spare-spared.ensures c.if-spared-sets.false
 
 pub put-requires : goal.put-requires
 put-requires c =
-    let here = (goal.at.put-requires c).After-wide-n in
+    let here = (goal.at.put-requires c).After-from-n in
     record {
       sees = sees here;
       present = present here;
       place = is-place (goal.at.put-requires c).Else-spared-sets;
       list = _;
       marks = _;
-      seen = c.seen-sets.ensures.yes (not-false _ c.if-not-sets.false);
+      seen = c.in-Some.ensures;
     }
 
 pub returns : goal.returns
 returns c =
     let a = c.args in
     c.put.ensures
-    ∙ points-there (shape a.g) a.w a.labels.now c.requires.1 (rw (present (goal.at.returns c).After-wide-n) (is-place (goal.at.returns c).Else-spared-sets))
+    ∙ points-there (shape a.g) a.w a.labels.now c.requires.1 (rw (present (goal.at.returns c).After-from-n) (is-place (goal.at.returns c).Else-spared-sets))
