@@ -7,13 +7,7 @@ ghost use Rattle.boundary_labels.specs.Boundary.{is_interior, boundary_label, bo
 ghost use Rattle.points_in_order.specs.Shifted.{last_but_one, last_one, end_shifted};
 ghost use Rattle.boundary.specs.Lent.{FilledBy, PointToLabel, TableToLabel, found_or};
 
-use grid::{Grid, wide};
-
-fn whole(x: u16) -> usize
-    ensures { result ≡ x }
-{
-    x as usize
-}
+use grid::Grid;
 
 // The new label of a point whose old one is given. Where no index has a 0 behind a positive number there is no 0.
 fn label(point: &[u16], previous: &[u8; 16], old: u8) -> u8
@@ -21,20 +15,15 @@ fn label(point: &[u16], previous: &[u8; 16], old: u8) -> u8
     ensures { (g : GridOf) → PointToLabel g previous.now point.now
         → result ≡ cond (is_interior point.now) old (boundary_label g point.now) }
 {
-    let mut h: usize = 0;
-    while h < point.len() {
-        if point[h] == 0 {
-            let before = wide(previous[h]);
-            if point[before] != 0 {
-                return (h + 1) as u8;
-            }
+    for (h, x) in point.iter().enumerate() {
+        if *x == 0 && point[usize::from(previous[h])] != 0 {
+            return (h + 1) as u8;
         }
-        h += 1;
     }
     old
 }
 
-// The label that was found, or the old one where none was.
+// The label that was found, or the old one where none was. As in a table, the byte 0 is no label.
 fn found_or(found: u8, old: u8) -> u8
     ensures { result ≡ found_or found old }
 {
@@ -50,10 +39,8 @@ fn fill(old: &[u8], labels: &mut [u8], from: usize, to: usize, found: u8)
         → FilledBy table old.now found from to
         → labels.new ≡ front (take to table) buffer }
 {
-    let mut i = from;
-    while i < to {
+    for i in from..to {
         labels[i] = found_or(found, old[i]);
-        i += 1;
     }
 }
 
@@ -68,7 +55,7 @@ fn more_alike(point: &[u16], left: usize) -> usize
     if point[m - 2] == 0 {
         return 0;
     }
-    let last = whole(point[m - 1]);
+    let last = usize::from(point[m - 1]);
     if last < 2 {
         return 0;
     }
@@ -88,10 +75,8 @@ fn shift_end(point: &mut [u16], by: usize)
         return;
     }
     let m = point.len();
-    let before = point[m - 2];
-    let last = point[m - 1];
-    point[m - 2] = before + by as u16;
-    point[m - 1] = last - by as u16;
+    point[m - 2] += by as u16;
+    point[m - 1] -= by as u16;
 }
 
 // The new labels of all points, from the first on: that of a point, and then those of the points behind it that are
@@ -127,21 +112,17 @@ pub fn write(grid: Grid, old: &[u8], labels: &mut [u8])
     requires { IsMade grid × (length old.now ≡ grid.points) × (length labels.old ≡ grid.points) }
     ensures { labels.new ≡ boundary_table (shape grid) old.now }
 {
-    let blocks = grid.blocks;
-    let indices = grid.indices;
-    let sizes = grid.sizes;
-    let divisions = grid.divisions;
-    let firsts = grid.firsts;
-    let previous = grid.previous;
+    let sizes = &grid.sizes[..grid.blocks];
+    let divisions = &grid.divisions[..grid.blocks];
     let mut point = [0u16; 16];
-    points_in_order::first_point(&sizes[..blocks], &divisions[..blocks], &firsts, &mut point);
+    points_in_order::first_point(sizes, divisions, &grid.firsts, &mut point);
     write_from(
-        &sizes[..blocks],
-        &divisions[..blocks],
-        &firsts,
-        &previous,
+        sizes,
+        divisions,
+        &grid.firsts,
+        &grid.previous,
         old,
-        &mut point[..indices],
+        &mut point[..grid.indices],
         labels,
     );
 }

@@ -9,14 +9,13 @@ use lib.Bits.{or_lt}
 use lib.Dec.{ltb}
 use native.Mathlib.Nat.{mod-lt}
 use native.Mathlib.Omega.{arith}
+use Rattle.std.specs.Prelude.{MatchOption, Option, Some, None}
 use Rattle.combinatorics.proofs.Basics.{before_or_not, same_or, true_or_false}
 use Rattle.grid_points.specs.Grid.{Point, at}
 use Rattle.rules.proofs.Masks.{bit_with}
 use Rattle.rules.specs.Mask.{bit, with_index}
 use Rattle.check_chains.specs.Follow.{GoesRound, HasZero, closed, Added, FollowedFrom, FoundOnBlock}
 use Rattle.check_chains.specs.Sets.{bit_number, ClearFrom}
-use Rattle.check_chains.specs.declared.sets.SetOfOnes.{SetOfOnes}
-use Rattle.check_chains.specs.declared.sets.SetOfOnes.TheVariants.{Set, NoSet}
 
 -- the numbers at the indices before h, and then `one`
 abbrev pub reached : ℕ → ℕ → ℕ → ℕ → ℕ
@@ -219,9 +218,12 @@ neither {first = first} l zero-no one-no f G = ⊎_elim
     one_of zero h = absurd (h refl)
     one_of (suc n) h = omega arith
 
--- what the second search finds is what there is
-pub found_second : {p z : Point} {first end : ℕ} (old : ℕ) (r : SetOfOnes) → first < end
-    → ((f : ℕ → ℕ) → f first ≡ 0 → GoesRound p z first end f → ⊥) → FollowedFrom p z first end 1 old r
-    → FoundOnBlock p z first end old r
-found_second old (Set set) l none w = (w.0, zero-beside l w.0 none)
-found_second old NoSet l none w = neither l none w
+-- what the first search finds, or else the second, is what there is
+pub found_either : (p z : Point) (first end old : ℕ) (r s : Option ℕ) → first < end
+    → FollowedFrom p z first end 0 old r
+    → MatchOption r (FollowedFrom p z first end 1 old s) (λ set. s ≡ Some set)
+    → FoundOnBlock p z first end old s
+found_either p z first end old (Some set) s l w e =
+    rw e (w.0, (first, omega arith, omega arith, w.1))
+found_either p z first end old None (Some set) l none w = (w.0, zero-beside l w.0 none)
+found_either p z first end old None None l none w = neither l none w

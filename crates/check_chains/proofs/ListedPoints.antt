@@ -11,7 +11,8 @@ use lib.ListN.{length, take, drop, set}
 use lib.Seq.{get_or-set_same, get_or-set_other}
 use native.Mathlib.Nat.{add-mul, mul-le-mul, mul-le-mul_right}
 use native.Mathlib.Omega.{arith}
-use Rattle.combinatorics.proofs.Basics.{absurd_bool, and_left, and_right, before_or_not}
+use Rattle.std.specs.Prelude.{Some, None}
+use Rattle.combinatorics.proofs.Basics.{and_left, and_right, before_or_not}
 use Rattle.combinatorics.specs.Lists.{all, up_from}
 use Rattle.grid.proofs.Fields.{indices-few, made-accepted}
 use Rattle.grid_points.specs.Grid.{Point, at, num_indices, is_grid_point}
@@ -21,7 +22,7 @@ use Rattle.check_simplices.proofs.Tests.{index_at}
 use Rattle.check_simplices.specs.Chains.{coefficients_from, zero_or_one, nested, pairwise, chain_from}
 use Rattle.check_chains.proofs.Following.{ones_small}
 use Rattle.check_chains.proofs.Nestings.{all-stops, all-goes, left-none, nested_is, pairwise-agree}
-use Rattle.check_chains.specs.Listed.{listed, listed_at, HasPoints, Listed, AreSets, Filled}
+use Rattle.check_chains.specs.Listed.{listed, listed_at, HasPoints, Listed, AreSets, FoundSets}
 use Rattle.check_chains.specs.Sets.{IsSet, nested_sets}
 
 -- a test of all numbered elements
@@ -75,15 +76,12 @@ module _ {g : GridStruct} {count : ℕ} {numbers : List ℕ} (L : Listed g count
         omega_not i k x e = omega arith
 
     -- the point k has no set,
-    pub filled-no : (sets : List ℕ) (k : ℕ) → k < count
+    pub filled-no : (k : ℕ) → k < count
         → all has-set (listed g.indices count numbers)
         ≡ all has-set (map (listed_at g.indices numbers) (up_from k (count - k)))
         → zero_or_one (shape g) (coefficients_from (shape g) p (listed_at g.indices numbers k)) ≡ false
-        → Filled g p numbers count false sets
-    filled-no sets k l e none = record {
-      good_is = all-stops (listed_at g.indices numbers) k count l has-set e none;
-      are_sets = λ t. absurd_bool (sym t);
-    }
+        → FoundSets g p numbers count None
+    filled-no k l e none = sym (all-stops (listed_at g.indices numbers) k count l has-set e none)
 
     -- or it has one,
     pub filled_more : (k s : ℕ) → k < count
@@ -100,11 +98,8 @@ module _ {g : GridStruct} {count : ℕ} {numbers : List ℕ} (L : Listed g count
         → all has-set (listed g.indices count numbers)
         ≡ all has-set (map (listed_at g.indices numbers) (up_from k (count - k)))
         → AreSets g p numbers k sets
-        → Filled g p numbers count true sets
-    filled-yes sets k l e S = record {
-      good_is = sym (e ∙ rw (left-none (listed_at g.indices numbers) k count (omega arith)));
-      are_sets = λ t. rw l at S;
-    }
+        → FoundSets g p numbers count (Some sets)
+    filled-yes sets k l e S = (e ∙ rw (left-none (listed_at g.indices numbers) k count (omega arith)), rw l at S)
 
     -- the lists are nested where the sets are
     pub nested-lists : (sets : List ℕ) → AreSets g p numbers count sets
@@ -119,11 +114,11 @@ module _ {g : GridStruct} {count : ℕ} {numbers : List ℕ} (L : Listed g count
         nested_is (shape g) (made-accepted g L.has.made).few_indices (S i (omega arith)) (S j (omega arith)))
 
     -- p serves as the start where all have sets and these are nested
-    pub not_served : {sets : List ℕ} {good : Bool} → Filled g p numbers count good sets → good ≡ false
+    pub not_served : FoundSets g p numbers count None
         → false ≡ chain_from (shape g) (listed g.indices count numbers) p
-    not_served F e = let none = sym F.good_is ∙ e in rw none
+    not_served none = rw none
 
-    pub served : {sets : List ℕ} {good nested-all : Bool} → Filled g p numbers count good sets → good ≡ true
+    pub served : (sets : List ℕ) {nested-all : Bool} → FoundSets g p numbers count (Some sets)
         → nested-all ≡ pairwise nested_sets (map (at sets) (up_from 0 count))
         → nested-all ≡ chain_from (shape g) (listed g.indices count numbers) p
-    served {sets} F e q = let all_have = sym F.good_is ∙ e in rw (all_have, nested-lists sets (F.are_sets e)) q
+    served sets F q = rw (F.0, nested-lists sets F.1) q

@@ -1,6 +1,6 @@
 -- Sets that are nested, for lists that are. In order: a mask is known by its bits; one list below another; nested
 -- lists; any two of many. Assumes nothing.
-use mathlib.Core.Bool.{Bool, true, false, ◌&&◌, cond}
+use mathlib.Core.Bool.{Bool, true, false, ◌&&◌, and-false, cond}
 use mathlib.Core.List.{List, [], ◌∷◌, map}
 use mathlib.Core.Logic.{⊎_elim}
 use mathlib.Core.Path.{◌≡◌, refl, sym, ap, ◌∙◌}
@@ -8,9 +8,13 @@ use Prim.Native.Nat.{ℕ, zero, suc, ◌+◌, ◌-◌, ◌≤◌, ◌<◌}
 use borrow.Author.Tests.{eq-eqb, eqb-true, leb-true, le-leb}
 use lib.Bits.{bit_and, and_comm, and_le_l}
 use lib.Dec.{eqb, leb}
+use lib.ListN.{get_or, length}
 use lib.Seq.{ext_get_or}
 use native.Mathlib.Numerals.{add-one}
 use native.Mathlib.Omega.{arith}
+use Rattle.std.specs.Bool.{MatchBool}
+use Rattle.std.specs.List.{AllWithin, HoldsAt, range_with_len}
+use Rattle.std.proofs.lemmas.List.FromFn.{get_or-range_with_len, length-range_with_len}
 use Rattle.combinatorics.proofs.Basics.{absurd_bool, before_or_not, both}
 use Rattle.combinatorics.proofs.Lists.{eqb_self, same_self, same_sound}
 use Rattle.combinatorics.specs.Lists.{all, any, same, up_from}
@@ -107,6 +111,51 @@ range_none k n l = let e : n - k ≡ 0 = omega arith in rw e
 pub range_more : (k n : ℕ) → k < n → up_from k (n - k) ≡ k ∷ up_from (k + 1) (n - (k + 1))
 range_more k n l = let e : n - k ≡ suc (n - (k + 1)) = omega arith in rw (e, add-one k)
 
+-- a test of all numbers from b up to e, as an iterator makes it
+pub all_passed : (q : ℕ → Bool) (b n : ℕ) → ((k : ℕ) → b ≤ k → k < b + n → q k ≡ true) → all q (up_from b n) ≡ true
+all_passed q b zero h = refl
+all_passed q b (suc n) h = rw (h b (omega arith) (omega arith), all_passed q (suc b) n (λ k l m. h k (omega arith) (omega arith)))
+
+one_failed : (q : ℕ → Bool) (b n k : ℕ) → b ≤ k → k < b + n → q k ≡ false → all q (up_from b n) ≡ false
+one_failed q b zero k l m e = absurd (omega arith)
+one_failed q b (suc n) k l m e = ⊎_elim
+    (λ (x : b < k). let rest = one_failed q (suc b) n k (omega arith) (omega arith) e in rw (rest, and-false (q b)))
+    (λ (x : k ≤ b). let same : b ≡ k = omega arith in rw (same, e))
+    (before_or_not b k)
+
+pub all_in_range : (q : ℕ → Bool) (b n : ℕ) (r : Bool)
+    → MatchBool r
+    (AllWithin (λ k. q k ≡ true) (range_with_len b n) 0 (length (range_with_len b n)))
+    ((i : ℕ) × (i < length (range_with_len b n)) × HoldsAt (λ k. q k ≡ false) (range_with_len b n) i)
+    → r ≡ all q (up_from b n)
+all_in_range q b n true h = sym (all_passed q b n (λ k l m.
+    let e : get_or (range_with_len b n) (k - b) 0 ≡ k =
+    get_or-range_with_len b n (k - b) 0 (omega arith) ∙ omega arith in
+    rw e at (h (k - b) 0 (omega arith) (omega (arith, length-range_with_len b n)))))
+all_in_range q b n false (i, l, f) =
+    let m : i < n = omega (arith, length-range_with_len b n) in
+    sym (one_failed q b n (b + i) (omega arith) (omega arith) (rw (get_or-range_with_len b n i 0 m) at (f 0)))
+
+all-map : {A : Type 0} (q : A → Bool) (f : ℕ → A) (ks : List ℕ) → all (λ k. q (f k)) ks ≡ all q (map f ks)
+all-map q f [] = refl
+all-map q f (k ∷ ks) = rw (all-map q f ks)
+
+-- the same of elements that are numbered
+pub all_numbered : {A : Type 0} (q : A → Bool) (f : ℕ → A) (b n : ℕ) (r : Bool)
+    → MatchBool r
+    (AllWithin (λ k. q (f k) ≡ true) (range_with_len b n) 0 (length (range_with_len b n)))
+    ((i : ℕ) × (i < length (range_with_len b n)) × HoldsAt (λ k. q (f k) ≡ false) (range_with_len b n) i)
+    → r ≡ all q (map f (up_from b n))
+all_numbered q f b n r h = all_in_range (λ k. q (f k)) b n r h ∙ all-map q f (up_from b n)
+
+-- any two are tested where each is with those behind it
+pub all_pairs : {A : Type 0} (r : A → A → Bool) (f : ℕ → A) (n k m : ℕ) → k + m ≡ n
+    → all (λ i. all (r (f i)) (map f (up_from (i + 1) (n - (i + 1))))) (up_from k m) ≡ pairwise r (map f (up_from k m))
+all_pairs r f n k zero e = refl
+all_pairs r f n k (suc m) e =
+    let left : n - (k + 1) ≡ m = omega arith in
+    rw (left, add-one k, all_pairs r f n (suc k) m (omega arith))
+
 -- a search through elements that are numbered: what is left of it, where the k-th is reached
 module _ {A : Type 0} (f : ℕ → A) (k n : ℕ) where
   -- none is left
@@ -132,12 +181,3 @@ module _ {A : Type 0} (f : ℕ → A) (k n : ℕ) where
     pub any-goes : {whole : Bool} (q : A → Bool) → whole ≡ any q (map f (up_from k (n - k))) → q (f k) ≡ false
         → whole ≡ any q (map f (up_from (k + 1) (n - (k + 1))))
     any-goes q e h = e ∙ rw (one_more, h)
-
-    pub pairs_stop : {whole : Bool} (r : A → A → Bool) → whole ≡ pairwise r (map f (up_from k (n - k)))
-        → all (r (f k)) (map f (up_from (k + 1) (n - (k + 1)))) ≡ false → false ≡ whole
-    pairs_stop r e h = sym (e ∙ rw (one_more, h))
-
-    pub pairs_go : {whole : Bool} (r : A → A → Bool) → whole ≡ pairwise r (map f (up_from k (n - k)))
-        → all (r (f k)) (map f (up_from (k + 1) (n - (k + 1)))) ≡ true
-        → whole ≡ pairwise r (map f (up_from (k + 1) (n - (k + 1))))
-    pairs_go r e h = e ∙ rw (one_more, h)

@@ -1,11 +1,9 @@
 -- The coefficients of z with p as the start, where they are 0s and 1s: on one block, and on all. Assumes nothing.
-use Rattle.std.specs.Prelude.{false, cond, ◌≡◌, ℕ, suc, ◌+◌, ◌≤◌, ◌<◌, ltb, length}
+use Rattle.std.specs.Prelude.{false, cond, Option, Some, None, ◌≡◌, ℕ, suc, ◌+◌, ◌≤◌, ◌<◌, ltb, length}
 use Rattle.grid_points.specs.Grid.{Grid, Point, at, num_indices}
 use Rattle.rules.specs.Mask.{bit}
 use Rattle.check_simplices.specs.Chains.{coefficients_from, zero_or_one}
 use Rattle.check_chains.specs.Sets.{bit_number, ClearFrom, IsSet}
-use Rattle.check_chains.specs.declared.sets.SetOfOnes.{SetOfOnes}
-use Rattle.check_chains.specs.declared.sets.SetOfOnes.TheVariants.{Set, NoSet}
 
 -- 0s and 1s at the indices from `first` up to `end`, a block, with "y_h = v_h + c_h - c_(h+1) for every h, h + 1 taken
 -- round the block": at `end` the first number stands again
@@ -38,16 +36,16 @@ pub record Added (p z : Point) (first end old set : ℕ) : Type 0 where
   pub goes : GoesRound p z first end (closed first end (bit_number set))
 
 -- what is found where the first number is to be c
-abbrev pub FollowedFrom : Point → Point → ℕ → ℕ → ℕ → ℕ → SetOfOnes → Type 0
-FollowedFrom p z first end c old (Set set) = Added p z first end old set × (bit_number set first ≡ c)
-FollowedFrom p z first end c old NoSet = (f : ℕ → ℕ) → f first ≡ c → GoesRound p z first end f → ⊥
+abbrev pub FollowedFrom : Point → Point → ℕ → ℕ → ℕ → ℕ → Option ℕ → Type 0
+FollowedFrom p z first end c old (Some set) = Added p z first end old set × (bit_number set first ≡ c)
+FollowedFrom p z first end c old None = (f : ℕ → ℕ) → f first ≡ c → GoesRound p z first end f → ⊥
 
 -- what is found on a block
-abbrev pub FoundOnBlock : Point → Point → ℕ → ℕ → ℕ → SetOfOnes → Type 0
-FoundOnBlock p z first end old (Set set) = Added p z first end old set × HasZero first end (bit_number set)
-FoundOnBlock p z first end old NoSet = (f : ℕ → ℕ) → GoesRound p z first end f → ⊥
+abbrev pub FoundOnBlock : Point → Point → ℕ → ℕ → ℕ → Option ℕ → Type 0
+FoundOnBlock p z first end old (Some set) = Added p z first end old set × HasZero first end (bit_number set)
+FoundOnBlock p z first end old None = (f : ℕ → ℕ) → GoesRound p z first end f → ⊥
 
 -- what is found of the whole list
-abbrev pub FoundOf : Grid → Point → Point → SetOfOnes → Type 0
-FoundOf g p z (Set set) = IsSet (num_indices g) (coefficients_from g p z) set
-FoundOf g p z NoSet = zero_or_one g (coefficients_from g p z) ≡ false
+abbrev pub FoundOf : Grid → Point → Point → Option ℕ → Type 0
+FoundOf g p z (Some set) = IsSet (num_indices g) (coefficients_from g p z) set
+FoundOf g p z None = zero_or_one g (coefficients_from g p z) ≡ false

@@ -1,5 +1,5 @@
 -- Points as a call is lent them, their numbers one after another, and their sets. Assumes nothing.
-use Rattle.std.specs.Prelude.{Bool, true, List, map, ◌≡◌, ℕ, ◌*◌, ◌≤◌, ◌<◌, length, take, drop}
+use Rattle.std.specs.Prelude.{true, false, Option, Some, None, List, map, ◌≡◌, ℕ, ◌*◌, ◌≤◌, ◌<◌, length, take, drop}
 use Rattle.combinatorics.specs.Lists.{all, up_from}
 use Rattle.grid_points.specs.Grid.{Point, at, num_indices, is_grid_point}
 use Rattle.grid.specs.Made.{shape, IsMade}
@@ -31,9 +31,10 @@ abbrev pub AreSets : GridStruct → Point → List ℕ → ℕ → List ℕ → 
 AreSets g p numbers count sets = (k : ℕ) → k < count
     → IsSet (num_indices (shape g)) (coefficients_from (shape g) p (listed_at g.indices numbers k)) (at sets k)
 
--- whether all points have sets, and these
-pub record Filled (g : GridStruct) (p : Point) (numbers : List ℕ) (count : ℕ) (good : Bool) (sets : List ℕ)
-    : Type 0 where
-  pub good_is : good
-      ≡ all (λ z. zero_or_one (shape g) (coefficients_from (shape g) p z)) (listed g.indices count numbers)
-  pub are_sets : good ≡ true → AreSets g p numbers count sets
+-- the sets of all points, if all have one
+abbrev pub FoundSets : GridStruct → Point → List ℕ → ℕ → Option (List ℕ) → Type 0
+FoundSets g p numbers count None =
+    all (λ z. zero_or_one (shape g) (coefficients_from (shape g) p z)) (listed g.indices count numbers) ≡ false
+FoundSets g p numbers count (Some sets) =
+    (all (λ z. zero_or_one (shape g) (coefficients_from (shape g) p z)) (listed g.indices count numbers) ≡ true)
+    × AreSets g p numbers count sets

@@ -4,24 +4,19 @@ ghost use Rattle.combinatorics.specs.Lists.{all, up_from};
 ghost use Rattle.grid_points.specs.Grid.{at, is_grid_point};
 ghost use Rattle.grid.specs.Made.{shape};
 ghost use Rattle.check_simplices.specs.Chains.{pairwise, chain_from, one_chain};
-ghost use Rattle.check_chains.specs.Listed.{listed, Listed, Filled};
+ghost use Rattle.check_chains.specs.Listed.{listed, Listed, FoundSets};
 ghost use Rattle.check_chains.specs.Sets.{nested_sets};
 
-use crate::sets::{SetOfOnes, set_from};
+use crate::sets::set_from;
 use grid::Grid;
 
 // Whether one of two sets lies inside the other, and they differ.
+#[tactic(auto, unfolding(crate::specs::Sets::nested_sets))]
 fn is_nested(a: u16, b: u16) -> bool
     ensures { result ≡ nested_sets a b }
 {
-    if a == b {
-        return false;
-    }
     let both = a & b;
-    if both == a {
-        return true;
-    }
-    both == b
+    a != b && (both == a || both == b)
 }
 
 // Whether the i-th set is nested with each later one.
@@ -30,14 +25,7 @@ fn nested_with_later(sets: &[u16; 16], i: usize, count: usize) -> bool
     ensures { result ≡ all (nested_sets (at sets.now i))
         (map (at sets.now) (up_from (i + 1) (count - (i + 1)))) }
 {
-    let mut k = i + 1;
-    while k < count {
-        if !is_nested(sets[i], sets[k]) {
-            return false;
-        }
-        k += 1;
-    }
-    true
+    (i + 1..count).all(|k| is_nested(sets[i], sets[k]))
 }
 
 // Whether any two of the first sets are nested.
@@ -45,33 +33,21 @@ fn all_nested(sets: &[u16; 16], count: usize) -> bool
     requires { count ≤ 16 }
     ensures { result ≡ pairwise nested_sets (map (at sets.now) (up_from 0 count)) }
 {
-    let mut i: usize = 0;
-    while i < count {
-        if !nested_with_later(sets, i, count) {
-            return false;
-        }
-        i += 1;
-    }
-    true
+    (0..count).all(|i| nested_with_later(sets, i, count))
 }
 
 // The sets of all points with p as the start, if they all have one.
-fn fill_sets(g: Grid, p: &[u16], numbers: &[u16], count: usize, sets: &mut [u16; 16]) -> bool
-    requires { Listed g count numbers.now × (is_grid_point (shape g) p.now ≡ true) × (length sets.old ≡ 16) }
-    ensures { Filled g p.now numbers.now count result sets.new }
+fn sets_of(g: Grid, p: &[u16], numbers: &[u16], count: usize) -> Option<[u16; 16]>
+    requires { Listed g count numbers.now × (is_grid_point (shape g) p.now ≡ true) }
+    ensures { FoundSets g p.now numbers.now count result }
 {
     let m = g.indices;
-    let mut k: usize = 0;
-    while k < count {
+    let mut sets = [0u16; 16];
+    for k in 0..count {
         let at = k * m;
-        let found = set_from(g, p, &numbers[at..at + m]);
-        let SetOfOnes::Set(set) = found else {
-            return false;
-        };
-        sets[k] = set;
-        k += 1;
+        sets[k] = set_from(g, p, &numbers[at..at + m])?;
     }
-    true
+    Some(sets)
 }
 
 // Whether p serves as the start.
@@ -79,11 +55,10 @@ fn chain_from(g: Grid, p: &[u16], numbers: &[u16], count: usize) -> bool
     requires { Listed g count numbers.now × (is_grid_point (shape g) p.now ≡ true) }
     ensures { result ≡ chain_from (shape g) (listed g.indices count numbers.now) p.now }
 {
-    let mut sets = [0u16; 16];
-    if !fill_sets(g, p, numbers, count, &mut sets) {
-        return false;
+    match sets_of(g, p, numbers, count) {
+        Some(sets) => all_nested(&sets, count),
+        None => false,
     }
-    all_nested(&sets, count)
 }
 
 // Whether one of the points serves as the start.
@@ -92,13 +67,11 @@ pub fn one_chain(g: Grid, numbers: &[u16], count: usize) -> bool
     ensures { result ≡ one_chain (shape g) (listed g.indices count numbers.now) }
 {
     let m = g.indices;
-    let mut k: usize = 0;
-    while k < count {
+    for k in 0..count {
         let at = k * m;
         if chain_from(g, &numbers[at..at + m], numbers, count) {
             return true;
         }
-        k += 1;
     }
     false
 }

@@ -6,7 +6,7 @@ use mathlib.Core.Option.{Option, none, some}
 use mathlib.Core.Path.{◌≡◌, refl, sym, ap, ◌∙◌}
 use Prim.Native.Nat.{ℕ, zero, suc, ◌+◌, ◌-◌, ◌≤◌, ◌<◌}
 use borrow.Author.Tests.{lt-ltb}
-use lib.Bits.{bit_and, bit_or}
+use lib.Bits.{and_comm, bit_and, bit_or}
 use lib.Dec.{eqb, ltb, eqb-suc-suc, eqb-suc-zero}
 use lib.ListN.{length, get_or, take, replicate, length-map, length-take}
 use lib.Seq.{ext_get_or, get_or-take, take_all}
@@ -157,10 +157,10 @@ module _ {g : Grid} (few : num_indices g ≤ 16) {labels : List ℕ} where
   pub more_covered : {zs : List Point} {labelled nought l : ℕ} (y : Point) (u : ℕ)
       → Covering g labels zs labelled nought → l ≡ label (labelled_by g labels) y → l ≤ 16
       → ((h : ℕ) → h < num_indices g → bit u h ≡ eqb (at y h) 0)
-      → Covering g labels (y ∷ zs) (with_label labelled l) (bit_and u nought)
+      → Covering g labels (y ∷ zs) (with_label labelled l) (bit_and nought u)
   more_covered {labelled = labelled} {nought} {l} y u C is small zeros_of = record {
     named = λ h m. named-bit labelled l h small (omega arith) ∙ rw (is, C.named h m);
-    zeros = λ h m. bit_and_lem u nought h ∙ rw (zeros_of h m, C.zeros h m);
+    zeros = λ h m. rw (and_comm nought u) (bit_and_lem u nought h ∙ rw (zeros_of h m, C.zeros h m));
   }
 
   pub all_covered : {zs : List Point} {labelled nought : ℕ} → Covering g labels zs labelled nought

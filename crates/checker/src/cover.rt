@@ -14,7 +14,7 @@ ghost use Rattle.checker.specs.Covered.{IsCovered, first_whole, Labelled, with_l
 
 use crate::CheckAnswer;
 use arrays::{add, has, padded, zeros};
-use grid::{Grid, wide};
+use grid::Grid;
 use label_table::{Label, read_at};
 use positions::ENTRIES;
 
@@ -24,7 +24,7 @@ fn with_label(set: u16, label: Label) -> u16
     ensures { result ≡ with_label set (label_byte label) }
 {
     match label {
-        Label::Is(byte) => add(set, wide(byte) - 1),
+        Label::Is(byte) => add(set, usize::from(byte) - 1),
         Label::Unknown => set,
     }
 }
@@ -56,13 +56,11 @@ pub fn covered(
     let m = g.indices;
     let mut labelled: u16 = 0;
     let mut zero: u16 = 65535;
-    let mut k = count;
-    while 0 < k {
-        k -= 1;
+    for k in (0..count).rev() {
         let at = k * m;
         let y = padded(&numbers[at..at + m], m);
         labelled = with_label(labelled, label_at(g, binomials, labels, &y));
-        zero = zeros(&y, m) & zero;
+        zero &= zeros(&y, m);
     }
     labelled | zero
 }
@@ -72,14 +70,7 @@ fn has_all(set: u16, first: usize, end: usize) -> bool
     requires { end ≤ 16 }
     ensures { result ≡ all (bit set) (up_from first (end - first)) }
 {
-    let mut h = first;
-    while h < end {
-        if !has(set, h) {
-            return false;
-        }
-        h += 1;
-    }
-    true
+    (first..end).all(|h| has(set, h))
 }
 
 // The first block whose indices the set has all.
@@ -87,16 +78,11 @@ pub fn first_whole(g: Grid, set: u16) -> CheckAnswer
     requires { IsMade g }
     ensures { result ≡ check_case (first_whole (shape g) set) }
 {
-    let firsts = g.firsts;
-    let sizes = g.sizes;
-    let blocks = g.blocks;
-    let mut j: usize = 0;
-    while j < blocks {
-        let first = wide(firsts[j]);
-        if has_all(set, first, first + wide(sizes[j])) {
+    for j in 0..g.blocks {
+        let first = usize::from(g.firsts[j]);
+        if has_all(set, first, first + usize::from(g.sizes[j])) {
             return CheckAnswer::Yes(j as u8 + 1);
         }
-        j += 1;
     }
     CheckAnswer::No
 }

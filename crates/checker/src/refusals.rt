@@ -16,13 +16,11 @@ fn all_on_grid(g: Grid, numbers: &[u16], count: usize) -> bool
     ensures { result ≡ all (is_grid_point (shape g)) (listed g.indices count numbers.now) }
 {
     let m = g.indices;
-    let mut k: usize = 0;
-    while k < count {
+    for k in 0..count {
         let at = k * m;
         if !g.is_grid_point(&numbers[at..at + m]) {
             return false;
         }
-        k += 1;
     }
     true
 }
@@ -52,10 +50,7 @@ fn is_list(g: Grid, numbers: &[u16]) -> bool
         return false;
     }
     let count = whole_points(length, m);
-    if count * m != length {
-        return false;
-    }
-    if m - g.blocks + 1 < count {
+    if count * m != length || m - g.blocks + 1 < count {
         return false;
     }
     all_on_grid(g, numbers, count)

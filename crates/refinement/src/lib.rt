@@ -35,11 +35,10 @@ pub struct Refined {
 fn no_level() -> Level
     ensures { result ≡ no_level }
 {
-    let kind = Kind::Place;
     Level {
         places: 0,
         labels_read: 0,
-        kind,
+        kind: Kind::Place,
         block: 0,
         vertices: 0,
     }
@@ -48,12 +47,10 @@ fn no_level() -> Level
 fn refused(code: u8) -> Refined
     ensures { result ≡ refused_of code }
 {
-    let none = no_level();
-    let levels = [none; 8];
     Refined {
         code,
         count: 0,
-        levels,
+        levels: [no_level(); 8],
     }
 }
 
@@ -89,12 +86,9 @@ pub fn refine(
         return refused(made.code);
     }
     let grids = made.grids;
-    let first = grids[0];
-    let last = grids[levels - 1];
-    let points = last.points;
     let code = first_level_no(
-        first,
-        points,
+        grids[0],
+        grids[levels - 1].points,
         start,
         losses,
         levels,

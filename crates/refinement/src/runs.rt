@@ -13,7 +13,7 @@ ghost use Rattle.refinement.specs.Runs.{level_start_from, game_of, numbers_in, p
 
 use crate::{Level, no_level};
 use finder::RunAnswer;
-use grid::{Grid, wide16};
+use grid::Grid;
 use positions::ENTRIES;
 use refinement_questions::room_of;
 
@@ -23,10 +23,8 @@ fn scaled(numbers: &[u16], factor: usize) -> [u16; 16]
     ensures { result ≡ padded 16 (times factor numbers.now) }
 {
     let mut start = [0u16; 16];
-    let mut h: usize = 0;
-    while h < numbers.len() {
-        start[h] = (factor * wide16(numbers[h])) as u16;
-        h += 1;
+    for (h, number) in numbers.iter().enumerate() {
+        start[h] = (factor * usize::from(*number)) as u16;
     }
     start
 }
@@ -64,8 +62,7 @@ fn run_level(
     game_labels::label_on(grid, losses, labels);
     let mut binomials = [0u16; ENTRIES];
     positions::binomials(grid, &mut binomials);
-    let found = finder::announced(grid, &binomials, start, labels, answer, grid.bound());
-    match found {
+    match finder::announced(grid, &binomials, start, labels, answer, grid.bound()) {
         RunAnswer::End {
             places,
             labels_read,
@@ -103,15 +100,13 @@ fn solve(
         (shape grid) level start.now losses.now factor answer.old)
         answer.old }
 {
-    let m = grid.indices;
-    let points = grid.points;
     let at = level * room_of(grid);
     let first = start_of(grid, level, start, factor, answer);
     run_level(
         grid,
-        &first[..m],
+        &first[..grid.indices],
         losses,
-        &mut labels[..points],
+        &mut labels[..grid.points],
         &mut answer[at..],
     )
 }
@@ -133,13 +128,9 @@ pub fn run_levels(
     ensures answer { let game = game_of grids start.now losses.now factor in
         answer.new ≡ numbers_after game levels answer.old }
 {
-    let none = no_level();
-    let mut found = [none; 8];
-    let mut i: usize = 0;
-    while i < levels {
-        let grid = grids[i];
-        found[i] = solve(grid, i, start, losses, factor, labels, answer);
-        i += 1;
+    let mut found = [no_level(); 8];
+    for i in 0..levels {
+        found[i] = solve(grids[i], i, start, losses, factor, labels, answer);
     }
     found
 }

@@ -5,7 +5,7 @@ ghost use Rattle.grid.specs.Made.{IsMade, made_of, shape};
 ghost use Rattle.refinement_levels.specs.Levels.{finer};
 ghost use Rattle.refinement_questions.specs.Grids.{AreMade, AreNext};
 
-use grid::{Grid, Made, wide16};
+use grid::{Grid, Made};
 
 // The divisions of the next level at the front, where 16 bits hold them all.
 #[derive(Clone, Copy)]
@@ -26,12 +26,9 @@ fn next_divisions(grid: Grid, factor: usize) -> Divisions
     requires { IsMade grid × (factor ≤ 10) }
     ensures { AreNext grid factor result }
 {
-    let blocks = grid.blocks;
-    let divisions = grid.divisions;
     let mut numbers = [0u16; 6];
-    let mut j: usize = 0;
-    while j < blocks {
-        let product = factor * wide16(divisions[j]);
+    for j in 0..grid.blocks {
+        let product = factor * usize::from(grid.divisions[j]);
         if 65535 < product {
             return Divisions {
                 fit: false,
@@ -39,7 +36,6 @@ fn next_divisions(grid: Grid, factor: usize) -> Divisions
             };
         }
         numbers[j] = product as u16;
-        j += 1;
     }
     Divisions { fit: true, numbers }
 }
@@ -51,16 +47,12 @@ fn next_grid(grid: Grid, factor: usize) -> Made
 {
     let next = next_divisions(grid, factor);
     if !next.fit {
-        let none = Grid::none();
         return Made {
             code: 4,
-            grid: none,
+            grid: Grid::none(),
         };
     }
-    let blocks = grid.blocks;
-    let sizes = grid.sizes;
-    let divisions = next.numbers;
-    Grid::new(&sizes[..blocks], &divisions[..blocks])
+    Grid::new(&grid.sizes[..grid.blocks], &next.numbers[..grid.blocks])
 }
 
 // Questions 1 to 4 of each level in turn, whose grids are made.
@@ -69,8 +61,7 @@ pub fn made_levels(sizes: &[u8], divisions: &[u16], factor: usize, levels: usize
     requires le_levels { (1 ≤ levels) × (levels ≤ 8) }
     ensures { AreMade (lent sizes.now divisions.now) factor levels result }
 {
-    let none = Grid::none();
-    let mut grids = [none; 8];
+    let mut grids = [Grid::none(); 8];
     let first = Grid::new(sizes, divisions);
     let mut made = first.grid;
     if first.code != 0 {
@@ -80,8 +71,7 @@ pub fn made_levels(sizes: &[u8], divisions: &[u16], factor: usize, levels: usize
         };
     }
     grids[0] = made;
-    let mut i: usize = 1;
-    while i < levels {
+    for i in 1..levels {
         let next = next_grid(made, factor);
         if next.code != 0 {
             return Grids {
@@ -91,7 +81,6 @@ pub fn made_levels(sizes: &[u8], divisions: &[u16], factor: usize, levels: usize
         }
         made = next.grid;
         grids[i] = made;
-        i += 1;
     }
     Grids { code: 0, grids }
 }

@@ -35,9 +35,7 @@ pub fn first_level_no(
     if !grid.is_grid_point(start) {
         return 5;
     }
-    let blocks = grid.blocks;
-    let sizes = grid.sizes;
-    if losses.len() != blocks * num_profiles(&sizes[..blocks]) {
+    if losses.len() != grid.blocks * num_profiles(&grid.sizes[..grid.blocks]) {
         return 10;
     }
     if !in_range(losses) {

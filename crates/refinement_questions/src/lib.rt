@@ -14,17 +14,5 @@ pub use later::{first_level_no, room_of};
 pub fn levels_in_range(factor: usize, levels: usize) -> bool
     ensures { result ≡ (question18 factor levels).answered_yes }
 {
-    if factor < 2 {
-        return false;
-    }
-    if 10 < factor {
-        return false;
-    }
-    if levels < 1 {
-        return false;
-    }
-    if 8 < levels {
-        return false;
-    }
-    true
+    (2..=10).contains(&factor) && (1..=8).contains(&levels)
 }

@@ -3,19 +3,22 @@ use mathlib.Core.Bool.{Bool, true, false, cond}
 use mathlib.Core.List.{List}
 use mathlib.Core.Logic.{◌⊎◌, ⊎_elim}
 use mathlib.Core.Path.{◌≡◌, refl, sym, ◌∙◌}
-use Prim.Native.Nat.{ℕ, suc, ◌+◌, ◌≤◌, ◌<◌}
+use Prim.Native.Nat.{ℕ, zero, suc, ◌+◌, ◌≤◌, ◌<◌}
 use borrow.Author.Tests.{eq-eqb, le-leb, ne_eqb}
 use lib.Dec.{eqb}
-use lib.ListN.{get_or, get_or-replicate, length, length-replicate, length-set, replicate, set}
-use lib.Seq.{get_or-set_other, get_or-set_same}
+use lib.ListN.{get_or, get_or-replicate, length, length-replicate, length-set, replicate, set, take}
+use lib.Seq.{get_or-set_other, get_or-set_same, length-take-le}
 use native.Mathlib.Numerals.{add-one}
 use native.Mathlib.Omega.{arith}
+use Rattle.std.proofs.lemmas.List.{get_or-take}
+use Rattle.std.specs.Bool.{MatchBool}
+use Rattle.std.specs.List.{AllWithin, HoldsAt}
 use Rattle.combinatorics.proofs.Basics.{and_both, false_of, same_or}
 use Rattle.combinatorics.specs.Lists.{all}
 use Rattle.shelf.proofs.Currents.{current-next}
-use Rattle.shelf.proofs.Sheets.{Shelf, last-names, none_replaces_0, replaced, replacer, rightly, shelf_before}
+use Rattle.shelf.proofs.Sheets.{Shelf, last-names, none_named, none_replaces_0, replaced, replacer, rightly, shelf_before}
 use Rattle.shelf.proofs.Sheets.{shelf_of}
-use Rattle.shelf.specs.Shelf.{current, is_replaced, is_shelf, names, names_rightly, sheets}
+use Rattle.shelf.specs.Shelf.{Replaces, current, is_replaced, is_shelf, names, names_rightly, sheets}
 
 module _ (list : List ℕ) where
   pub found : (count k s : ℕ) → k < count → 1 ≤ s → get_or list k 0 ≡ s → is_replaced list count s ≡ true
@@ -28,6 +31,22 @@ module _ (list : List ℕ) where
 
   passed_named : (k s : ℕ) → 1 ≤ s → get_or list k 0 ≡ s → is_replaced list (k + 1) s ≡ true
   passed_named k s l e = found (k + 1) k s (omega arith) l e
+
+  -- what an iterator's `any` says of the entries of the sheets filed
+  pub any_names : (count s : ℕ) (r : Bool) → count ≤ length list → 1 ≤ s
+      → MatchBool r
+      ((k : ℕ) × (k < length (take count list)) × HoldsAt (λ x. x ≡ s) (take count list) k)
+      (AllWithin (λ x. x ≡ s → ⊥) (take count list) 0 (length (take count list)))
+      → r ≡ is_replaced list count s
+  any_names count s true room l (k, h, e) =
+      let before : k < count = omega (arith, length-take-le _ _ room) in
+      sym (found count k s before l (rw (get_or-take count list k 0 before) at (e 0)))
+  any_names count s false room l h = sym (none_named list (λ k r. other k r))
+    where
+      other : (k : ℕ) → Replaces list count k s → ⊥
+      other zero r = omega (arith, r.numbered)
+      other (suc k) r = h k 0 (omega arith) (omega (arith, length-take-le _ _ room, r.filed))
+          (get_or-take count list k 0 (omega (arith, r.filed)) ∙ r.named)
 
 -- the first k sheets name rightly, and the numbers that they name are marked
 pub record Checked (list : List ℕ) (k : ℕ) (marks : List Bool) : Type 0 where

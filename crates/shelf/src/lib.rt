@@ -16,19 +16,10 @@ fn first_shelf_no(list: &[u16], count: usize, named: usize) -> u8
     if !passes::is_shelf(list, count) {
         return 21;
     }
-    if count == 1000 {
+    if count == 1000 || count == list.len() {
         return 22;
     }
-    if count == list.len() {
-        return 22;
-    }
-    if count < named {
-        return 23;
-    }
-    if named == 0 {
-        return 0;
-    }
-    if passes::is_replaced(list, count, named) {
+    if count < named || (named != 0 && passes::is_replaced(list, count, named)) {
         return 23;
     }
     0
@@ -55,10 +46,7 @@ pub fn current(list: &[u16], count: usize, sheet: usize) -> Current
     if !passes::is_shelf(list, count) {
         return Current::Refused(21);
     }
-    if sheet == 0 {
-        return Current::Refused(23);
-    }
-    if count < sheet {
+    if sheet == 0 || count < sheet {
         return Current::Refused(23);
     }
     Current::Sheet(passes::last_reached(list, count, sheet))

@@ -3,8 +3,6 @@
 use mathlib.Core.Bool.{true}
 use mathlib.Core.Path.{◌≡◌, sym, ◌∙◌}
 use Prim.Native.Nat.{◌≤◌}
-use borrow.Author.Rules.{rules}
-use borrow.Author.Tests.{not-false, not-true}
 use lib.ListN.{length}
 use native.Mathlib.Omega.{arith}
 use Rattle.grid_points.specs.Grid.{lent}
@@ -47,8 +45,8 @@ returns-then-made-ne0 c =
     c.refused-then-made-ne0.ensures in
     record { answer = both.0; labels = both.1.0; numbers = both.1.1 }
 
-pub overflow_sub-last : goal.overflow_sub-last
-overflow_sub-last c = omega (arith, (ranges (goal.at.overflow_sub-last c).Else-not-levels_in_range).1.0)
+pub overflow_sub-levels : goal.overflow_sub-levels
+overflow_sub-levels c = omega (arith, (ranges (goal.at.overflow_sub-levels c).Else-not-levels_in_range).1.0)
 
 pub offset_bounds-grids-levels : goal.offset_bounds-grids-levels
 offset_bounds-grids-levels c = omega (arith, (ranges (goal.at.offset_bounds-grids-levels c).Else-not-levels_in_range).1.1)

@@ -9,7 +9,8 @@ use Rattle.shelf.specs.Calls.{asking}
 use Rattle.shelf.specs.Shelf.{is_shelf}
 use Rattle.shelf.specs.declared.answers.Current.TheVariants.{Sheet}
 use Rattle.shelf.proofs.current.Goals as goal
-use Rattle.shelf.proofs.current.Goals.{Else-not-is_shelf}
+use Rattle.shelf.proofs.current.Goals.{Else-not-is_shelf, then-sheet-eq0-via-then-sheet-eq0}
+use Rattle.shelf.proofs.current.Goals.{then-sheet-eq0-via-else-sheet-eq0+then-count-sheet}
 
 -- behind question 21
 passes : (c : Else-not-is_shelf)
@@ -30,16 +31,13 @@ returns-then-not-is_shelf c =
 pub returns-then-sheet-eq0 : goal.returns-then-sheet-eq0
 returns-then-sheet-eq0 c =
     let a = c.args in
-    sym (asked_off a.list.now a.count a.sheet (shelf (goal.at.returns-then-sheet-eq0 c).Else-not-is_shelf) (λ l h. omega arith))
-
-pub returns-then-count-sheet : goal.returns-then-count-sheet
-returns-then-count-sheet c =
-    let a = c.args in
-    sym (asked_off a.list.now a.count a.sheet (shelf (goal.at.returns-then-count-sheet c).Else-not-is_shelf) (λ l h. omega arith))
-
-pub last_reached-requires : goal.last_reached-requires
-last_reached-requires c =
-    record { passes = passes (goal.at.last_reached-requires c).Else-not-is_shelf; numbered = omega (arith, c.if-sheet-eq0.false); filed = omega arith }
+    let shelf = shelf (goal.at.returns-then-sheet-eq0 c).Else-not-is_shelf in
+    elim c.then-sheet-eq0.branch [
+      | then-sheet-eq0-via-then-sheet-eq0 w ↦
+          sym (asked_off a.list.now a.count a.sheet shelf (λ l h. omega arith))
+      | then-sheet-eq0-via-else-sheet-eq0+then-count-sheet w ↦
+          sym (asked_off a.list.now a.count a.sheet shelf (λ l h. omega arith))
+    ]
 
 pub returns : goal.returns
 returns c =

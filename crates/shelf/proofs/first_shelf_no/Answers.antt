@@ -8,7 +8,11 @@ use Rattle.shelf.proofs.Calls.{no-refusal, refusal_21, refusal_22, refusal_23}
 use Rattle.shelf.proofs.Sheets.{none_replaces_0}
 use Rattle.shelf.specs.Shelf.{is_replaced, is_shelf}
 use Rattle.shelf.proofs.first_shelf_no.Goals as goal
-use Rattle.shelf.proofs.first_shelf_no.Goals.{Else-not-is_shelf}
+use Rattle.shelf.proofs.first_shelf_no.Goals.{Else-not-is_shelf, then-named-ne0, else-named-ne0}
+use Rattle.shelf.proofs.first_shelf_no.Goals.{then-count-eq1000-via-then-count-eq1000}
+use Rattle.shelf.proofs.first_shelf_no.Goals.{then-count-eq1000-via-else-count-eq1000+then-count-list}
+use Rattle.shelf.proofs.first_shelf_no.Goals.{then-count-named-via-then-count-named}
+use Rattle.shelf.proofs.first_shelf_no.Goals.{then-count-named-via-else-count-named+then-is_replaced}
 
 -- behind question 21
 passes : (c : Else-not-is_shelf)
@@ -24,43 +28,35 @@ returns-then-not-is_shelf c =
 pub returns-then-count-eq1000 : goal.returns-then-count-eq1000
 returns-then-count-eq1000 c =
     let a = c.args in
-    sym (refusal_22 a.list.now a.count a.named (passes (goal.at.returns-then-count-eq1000 c).Else-not-is_shelf) (inl c.if-count-eq1000.true))
-
-pub returns-then-count-list : goal.returns-then-count-list
-returns-then-count-list c =
-    let a = c.args in
-    sym (refusal_22 a.list.now a.count a.named (passes (goal.at.returns-then-count-list c).Else-not-is_shelf) (inr c.if-count-list.true))
+    let p = passes (goal.at.returns-then-count-eq1000 c).Else-not-is_shelf in
+    elim c.then-count-eq1000.branch [
+      | then-count-eq1000-via-then-count-eq1000 w ↦
+          sym (refusal_22 a.list.now a.count a.named p (inl w.if-count-eq1000.true))
+      | then-count-eq1000-via-else-count-eq1000+then-count-list w ↦
+          sym (refusal_22 a.list.now a.count a.named p (inr w.if-count-list.true))
+    ]
 
 pub returns-then-count-named : goal.returns-then-count-named
 returns-then-count-named c =
     let a = c.args in
-    sym (refusal_23 a.list.now a.count a.named (passes (goal.at.returns-then-count-named c).Else-not-is_shelf) c.if-count-eq1000.false
-    c.if-count-list.false (λ l u. omega arith))
-
-pub returns-then-named-eq0 : goal.returns-then-named-eq0
-returns-then-named-eq0 c =
-    let a = c.args in
-    let none : is_replaced a.list.now a.count a.named ≡ false =
-    rw c.if-named-eq0.true (none_replaces_0 a.list.now a.count) in
-    sym (no-refusal a.list.now a.count a.named (passes (goal.at.returns-then-named-eq0 c).Else-not-is_shelf) c.if-count-eq1000.false
-    c.if-count-list.false (omega arith) none)
-
-pub is_replaced-requires : goal.is_replaced-requires
-is_replaced-requires c = record {
-  passes = passes (goal.at.is_replaced-requires c).Else-not-is_shelf;
-  numbered = omega (arith, c.if-named-eq0.false);
-  filed = omega arith;
-}
-
-pub returns-then-is_replaced : goal.returns-then-is_replaced
-returns-then-is_replaced c =
-    let a = c.args in
-    sym
-    (refusal_23 a.list.now a.count a.named (passes (goal.at.returns-then-is_replaced c).Else-not-is_shelf) c.if-count-eq1000.false c.if-count-list.false
-    (λ l u. absurd_bool (sym (sym c.is_replaced.ensures ∙ c.if-is_replaced.true) ∙ u)))
+    let p = passes (goal.at.returns-then-count-named c).Else-not-is_shelf in
+    let refused = refusal_23 a.list.now a.count a.named p c.if-count-eq1000.false c.if-count-list.false in
+    elim c.then-count-named.branch [
+      | then-count-named-via-then-count-named w ↦ sym (refused (λ l u. omega arith))
+      | then-count-named-via-else-count-named+then-is_replaced w ↦ sym (refused (λ l u.
+          elim w.if-named-ne0.branch [
+            | then-named-ne0 v ↦ absurd_bool (sym w.if-is_replaced.true ∙ v.value-is ∙ v.is_replaced.ensures ∙ u)
+            | else-named-ne0 v ↦
+                absurd_bool (rw v.if-named-ne0.false at (sym w.if-is_replaced.true ∙ v.value-is))
+          ]))
+    ]
 
 pub returns : goal.returns
 returns c =
     let a = c.args in
+    let free : is_replaced a.list.now a.count a.named ≡ false = elim c.if-named-ne0.branch [
+      | then-named-ne0 v ↦ cc
+      | else-named-ne0 v ↦ rw v.if-named-ne0.false (none_replaces_0 a.list.now a.count)
+    ] in
     sym (no-refusal a.list.now a.count a.named (passes (goal.at.returns c).Else-not-is_shelf) c.if-count-eq1000.false
-    c.if-count-list.false (omega arith) (sym c.is_replaced.ensures ∙ c.if-is_replaced.false))
+    c.if-count-list.false (omega arith) free)

@@ -1,11 +1,8 @@
 -- `fill` meets its contract: the bytes passed are those of the table. Assumes nothing.
 use mathlib.Core.List.{List}
-use mathlib.Core.Path.{◌≡◌, refl, ◌∙◌}
-use Prim.Native.Nat.{ℕ, ◌-◌, ◌≤◌}
-use borrow.Author.Rules.{rules}
-use lib.ListN.{length, take, length-set}
-use native.Mathlib.Omega.{arith}
-use Rattle.combinatorics.proofs.Fronts.{front-copy}
+use mathlib.Core.Path.{◌≡◌}
+use Prim.Native.Nat.{ℕ, ◌≤◌}
+use lib.ListN.{length, take}
 use Rattle.combinatorics.specs.Front.{front}
 use Rattle.boundary.specs.Lent.{FilledBy}
 use Rattle.boundary.proofs.table.fill.Given as goal
@@ -16,6 +13,3 @@ invariant-loop-i l =
     × ((table buffer : List ℕ) → length table ≡ length l.initial.labels → length buffer ≡ length table
     → l.initial.labels ≡ front (take l.from table) buffer → FilledBy table l.old l.found l.from l.to
     → l.labels ≡ front (take l.i table) buffer)
-
-abbrev pub decreases-loop-i : goal.decreases-loop-i
-decreases-loop-i l = l.to - l.i

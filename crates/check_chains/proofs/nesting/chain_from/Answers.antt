@@ -2,10 +2,8 @@
 use Rattle.check_chains.proofs.ListedPoints.{not_served, served}
 use Rattle.check_chains.proofs.nesting.chain_from.Goals as goal
 
-pub returns-then-not-fill_sets : goal.returns-then-not-fill_sets
-returns-then-not-fill_sets c = not_served c.requires.0 c.args.p.now c.fill_sets.ensures c.if-not-fill_sets.true
+pub returns-in-Some : goal.returns-in-Some
+returns-in-Some c = served c.requires.0 c.args.p.now c.in-Some.sets c.in-Some.ensures c.all_nested.ensures
 
-pub returns : goal.returns
-returns c =
-    served c.requires.0 c.args.p.now c.fill_sets.ensures
-    c.if-not-fill_sets.false c.all_nested.ensures
+pub returns-in-None : goal.returns-in-None
+returns-in-None c = not_served c.requires.0 c.args.p.now c.in-None.ensures

@@ -1,34 +1,22 @@
--- `nesting::nested_with_later` meets its contract. The invariant: what is asked of the sets from k on. The measure: the
--- sets left. Assumes nothing.
-use mathlib.Core.Path.{refl, sym, ◌∙◌}
-use native.Mathlib.Omega.{arith}
+-- `nesting::nested_with_later` meets its contract: each later set is tested. Assumes nothing.
+use mathlib.Core.Bool.{true, false}
+use mathlib.Core.Path.{◌≡◌, refl}
+use Prim.Native.Nat.{◌+◌, ◌-◌}
+use borrow.Author.Rules.{rules}
+use borrow.Author.Tests.{tests}
+use Rattle.std.proofs.lemmas.Iterator.{YieldsList-from_range, cases_from_all}
 use Rattle.grid_points.specs.Grid.{at}
-use Rattle.check_chains.proofs.Nestings.{left-none, all-stops, all-goes}
+use Rattle.check_chains.proofs.Nestings.{all_numbered}
 use Rattle.check_chains.specs.Sets.{nested_sets}
 use Rattle.check_chains.proofs.nesting.nested_with_later.Goals as goal
 
-pub loop-k-init : goal.loop-k-init
-loop-k-init c = (omega arith, omega arith, omega arith, refl)
-
-pub returns-then-not-is_nested : goal.returns-then-not-is_nested
-returns-then-not-is_nested c =
-    let l = c.loop-k in
-    let a = c.args in
-    all-stops (at a.sets.now) l.k a.count (omega arith) (nested_sets (at a.sets.now a.i)) l.invariant.3
-    (sym c.is_nested.ensures ∙ c.if-not-is_nested.true)
-
-pub loop-k-preserved : goal.loop-k-preserved
-loop-k-preserved c =
-    let l = c.loop-k in
-    let a = c.args in (
-      omega arith,
-      omega arith,
-      omega arith,
-      all-goes (at a.sets.now) l.k a.count (omega arith) (nested_sets (at a.sets.now a.i)) l.invariant.3
-          (sym c.is_nested.ensures ∙ c.if-not-is_nested.false),
-    )
-
 pub returns : goal.returns
-returns c = let l = c.loop-k in
+returns c =
     let a = c.args in
-    sym (l.invariant.3 ∙ rw (left-none (at a.sets.now) l.k a.count (omega arith)))
+    let set = at a.sets.now a.i in
+    let rest = a.count - (a.i + 1) in
+    all_numbered (nested_sets set) (at a.sets.now) (a.i + 1) rest c.all.result
+    (cases_from_all _ _ _
+    (λ k. nested_sets set (at a.sets.now k) ≡ true) (λ k. nested_sets set (at a.sets.now k) ≡ false)
+    c.all.ensures.ran (YieldsList-from_range (a.i + 1) a.count rest refl refl)
+    (λ x q k. search (rules, tests)) (λ x q k. search (rules, tests)))

@@ -6,27 +6,13 @@ use native.Mathlib.Omega.{arith}
 use Rattle.grid.specs.Made.{shape}
 use Rattle.check_simplices.specs.Chains.{chain_from, one_chain}
 use Rattle.check_chains.proofs.ListedPoints.{is-listed, on-grid}
-use Rattle.check_chains.proofs.Nestings.{left-none, any-stops, any-goes}
+use Rattle.check_chains.proofs.Nestings.{any-stops, any-goes}
 use Rattle.check_chains.specs.Listed.{listed, listed_at}
 use Rattle.check_chains.proofs.nesting.one_chain.Goals as goal
 
 pub loop-k-init : goal.loop-k-init
 unfolding one_chain
 loop-k-init c = let e : c.args.count - 0 ≡ c.args.count = omega arith in (omega arith, rw e)
-
-pub overflow_mul-at : goal.overflow_mul-at
-overflow_mul-at c = omega (arith, (is-listed c.requires.has c.loop-k.k (omega arith)).small)
-
-pub overflow_add-at : goal.overflow_add-at
-overflow_add-at c =
-    omega (arith, (is-listed c.requires.has c.loop-k.k (omega arith)).small)
-
-pub offset_bounds-numbers-at : goal.offset_bounds-numbers-at
-offset_bounds-numbers-at c =
-    omega (arith, (is-listed c.requires.has c.loop-k.k (omega arith)).small)
-
-pub slice_bounds-chain_from-end : goal.slice_bounds-chain_from-end
-slice_bounds-chain_from-end c = (is-listed c.requires.has c.loop-k.k (omega arith)).room
 
 pub chain_from-requires : goal.chain_from-requires
 chain_from-requires c = let i = is-listed c.requires.has c.loop-k.k (omega arith) in
@@ -51,8 +37,3 @@ loop-k-preserved c =
           (chain_from (shape a.g) (listed a.g.indices a.count a.numbers.now)) l.invariant.1
           (sym (rw i.part at c.chain_from.ensures) ∙ c.if-chain_from.false),
     )
-
-pub returns : goal.returns
-returns c = let a = c.args in
-    let l = c.loop-k in
-    sym (l.invariant.1 ∙ rw (left-none (listed_at a.g.indices a.numbers.now) l.k a.count (omega arith)))

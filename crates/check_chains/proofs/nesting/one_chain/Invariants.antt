@@ -14,6 +14,3 @@ invariant-loop-k l = (l.k ≤ l.count)
     × (one_chain (shape l.g) (listed l.g.indices l.count l.numbers)
     ≡ any (chain_from (shape l.g) (listed l.g.indices l.count l.numbers))
     (map (listed_at l.g.indices l.numbers) (up_from l.k (l.count - l.k))))
-
-abbrev pub decreases-loop-k : goal.decreases-loop-k
-decreases-loop-k l = l.count - l.k

@@ -1,13 +1,8 @@
 -- `sets::on_block` meets its contract: the first coefficient is 0 or 1. Assumes nothing.
+use borrow.Author.Rules.{rules}
 use native.Mathlib.Omega.{arith}
-use Rattle.check_chains.proofs.Following.{found_second}
+use Rattle.check_chains.proofs.Following.{found_either}
 use Rattle.check_chains.proofs.sets.on_block.Goals as goal
 
-pub returns-in-Set : goal.returns-in-Set
-returns-in-Set c = let w = rw c.in-Set.is at c.follow_from-from_zero.ensures in
-    (w.0, (c.args.first, omega arith, omega arith, w.1))
-
-pub returns-in-NoSet : goal.returns-in-NoSet
-returns-in-NoSet c = found_second _ c.follow_from.result (omega arith)
-    (rw c.in-NoSet.is at c.follow_from-from_zero.ensures)
-    c.follow_from.ensures
+pub returns : goal.returns
+returns c = found_either _ _ _ _ _ c.follow_from.result _ (omega arith) c.follow_from.ensures (search rules)

@@ -12,17 +12,12 @@ use Rattle.check_chains.proofs.sets.set_from.Goals as goal
 pub loop-j-init : goal.loop-j-init
 loop-j-init c = (none_added, omega arith, (blocks-range _ c.requires.0).1)
 
-pub overflow_add-first : goal.overflow_add-first
-overflow_add-first c =
-    let b = is_block c.args.g c.requires.0 c.loop-j.j (omega arith) in
-    omega (arith, b.first_is, b.size_is, b.inside, b.few, c.wide.ensures, c.wide-first.ensures)
-
-pub on_block-found-requires : goal.on_block-found-requires
-on_block-found-requires c = let s = c.args.g in
+pub on_block-requires : goal.on_block-requires
+on_block-requires c = let s = c.args.g in
     let l = c.loop-j in
     let b = is_block s c.requires.0 l.j (omega arith) in
-    let first : c.wide-first.result ≡ first_index (shape s) l.j = c.wide-first.ensures ∙ b.first_is in
-    let size : c.wide.result ≡ size (shape s) l.j = c.wide.ensures ∙ b.size_is in
+    let first : c.from-first.result ≡ first_index (shape s) l.j = c.from-first.ensures ∙ b.first_is in
+    let size : c.from.result ≡ size (shape s) l.j = c.from.ensures ∙ b.size_is in
     record {
       some = omega (arith, b.two);
       few = omega (arith, b.inside, b.few);
@@ -31,25 +26,26 @@ on_block-found-requires c = let s = c.args.g in
       clear = rw first l.invariant.0.clear;
     }
 
-pub returns-in_default : goal.returns-in_default
-returns-in_default c =
+pub returns-in_err-set : goal.returns-in_err-set
+returns-in_err-set c =
     let s = c.args.g in
     let l = c.loop-j in
     let b = is_block s c.requires.0 l.j (omega arith) in
-    let first = c.wide-first.ensures ∙ b.first_is in
-    let size = c.wide.ensures ∙ b.size_is in
-    let none = rw c.in_default.is at c.on_block-found.ensures in
-    no-set (made-accepted s c.requires.0) c.args.p.now c.args.z.now c.requires.1 c.requires.2
-    l.j (omega (arith, made-blocks s c.requires.0)) (rw (first, size) at none)
+    let first = c.from-first.ensures ∙ b.first_is in
+    let size = c.from.ensures ∙ b.size_is in
+    let none = c.in_err-set.ensures in
+    rw c.from_residual.ensures
+    (no-set (made-accepted s c.requires.0) c.args.p.now c.args.z.now c.requires.1 c.requires.2
+    l.j (omega (arith, made-blocks s c.requires.0)) (rw (first, size) at none))
 
 pub loop-j-preserved : goal.loop-j-preserved
 loop-j-preserved c =
     let s = c.args.g in
     let l = c.loop-j in
     let b = is_block s c.requires.0 l.j (omega arith) in
-    let first = c.wide-first.ensures ∙ b.first_is in
-    let size = c.wide.ensures ∙ b.size_is in
-    let found = rw c.in-Set.is at c.on_block-found.ensures in
+    let first = c.from-first.ensures ∙ b.first_is in
+    let size = c.from.ensures ∙ b.size_is in
+    let found = c.in_ok-set.ensures in
     let here = rw (first, size) at found in
     (one_added l.invariant.0 (omega (arith, b.two)) here.0 here.1, omega arith, l.invariant.2)
 

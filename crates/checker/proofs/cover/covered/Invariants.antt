@@ -11,6 +11,3 @@ use Rattle.checker.proofs.cover.covered.Given as goal
 abbrev pub invariant-loop-k : goal.invariant-loop-k
 invariant-loop-k l =
     (l.k ≤ l.count) × Covering (shape l.g) l.labels (map (listed_at l.g.indices l.numbers) (up_from l.k (l.count - l.k))) l.labelled l.zero
-
-abbrev pub decreases-loop-k : goal.decreases-loop-k
-decreases-loop-k l = l.k

@@ -18,11 +18,11 @@ loop-j-init c = let e : c.args.g.blocks - 0 ≡ c.args.g.blocks = omega arith in
 
 pub overflow_add-first : goal.overflow_add-first
 overflow_add-first c = let i = is_block c.args.g c.requires c.loop-j.j (omega arith) in
-    omega (arith, i.first_is, i.size_is, i.inside, i.few, c.wide.ensures, c.wide-first.ensures)
+    omega (arith, i.first_is, i.size_is, i.inside, i.few, c.from.ensures, c.from-first.ensures)
 
 pub has_all-requires : goal.has_all-requires
 has_all-requires c = let i = is_block c.args.g c.requires c.loop-j.j (omega arith) in
-    omega (arith, i.first_is, i.size_is, i.inside, i.few, c.wide.ensures, c.wide-first.ensures)
+    omega (arith, i.first_is, i.size_is, i.inside, i.few, c.from.ensures, c.from-first.ensures)
 
 pub returns-then-has_all : goal.returns-then-has_all
 returns-then-has_all c =
@@ -30,8 +30,8 @@ returns-then-has_all c =
     let l = c.loop-j in
     let i = is_block s c.requires l.j (omega arith) in
     let found = block-whole (shape s).sizes c.args.set l.j _ _
-    (c.wide-first.ensures ∙ i.first_is)
-    (ap (λ n. c.wide-first.result + n) (c.wide.ensures ∙ i.size_is))
+    (c.from-first.ensures ∙ i.first_is)
+    (ap (λ n. c.from-first.result + n) (c.from.ensures ∙ i.size_is))
     c.has_all.ensures in
     let first = first_stops (whole-block (shape s).sizes c.args.set) l.j s.blocks (omega arith) l.invariant.2
     (sym found ∙ c.if-has_all.true) in
@@ -43,8 +43,8 @@ loop-j-preserved c =
     let l = c.loop-j in
     let i = is_block s c.requires l.j (omega arith) in
     let found = block-whole (shape s).sizes c.args.set l.j _ _
-    (c.wide-first.ensures ∙ i.first_is)
-    (ap (λ n. c.wide-first.result + n) (c.wide.ensures ∙ i.size_is))
+    (c.from-first.ensures ∙ i.first_is)
+    (ap (λ n. c.from-first.result + n) (c.from.ensures ∙ i.size_is))
     c.has_all.ensures in (
       omega arith,
       omega arith,

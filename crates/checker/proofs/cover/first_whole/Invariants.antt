@@ -9,9 +9,6 @@ use Rattle.checker.proofs.Covering.{whole-block}
 use Rattle.checker.proofs.cover.first_whole.Given as goal
 
 abbrev pub invariant-loop-j : goal.invariant-loop-j
-invariant-loop-j l = (l.j ≤ l.blocks) × (l.blocks ≤ 6)
-    × (first_of (filter (whole-block (take l.blocks l.sizes) l.set) (up_from 0 l.blocks))
-    ≡ first_of (filter (whole-block (take l.blocks l.sizes) l.set) (up_from l.j (l.blocks - l.j))))
-
-abbrev pub decreases-loop-j : goal.decreases-loop-j
-decreases-loop-j l = l.blocks - l.j
+invariant-loop-j l = (l.j ≤ l.g.blocks) × (l.g.blocks ≤ 6)
+    × (first_of (filter (whole-block (take l.g.blocks l.g.sizes) l.set) (up_from 0 l.g.blocks))
+    ≡ first_of (filter (whole-block (take l.g.blocks l.g.sizes) l.set) (up_from l.j (l.g.blocks - l.j))))

@@ -1,32 +1,18 @@
--- `cover::has_all` meets its contract. The invariant: what is asked of the indices from h on. The measure: the indices
--- left. Assumes nothing.
-use mathlib.Core.Path.{refl, sym, ◌∙◌}
-use native.Mathlib.Omega.{arith}
+-- `cover::has_all` meets its contract: the test of each index is that of the definition. Assumes nothing.
+use mathlib.Core.Bool.{true, false}
+use mathlib.Core.Path.{◌≡◌, refl}
+use Prim.Native.Nat.{◌-◌}
+use borrow.Author.Rules.{rules}
+use borrow.Author.Tests.{tests}
+use Rattle.std.proofs.lemmas.Iterator.{YieldsList-from_range, cases_from_all}
 use Rattle.rules.specs.Mask.{bit}
-use Rattle.check_chains.proofs.Nestings.{range_none}
-use Rattle.checker.proofs.Covering.{range-stops, range-goes}
+use Rattle.check_chains.proofs.Nestings.{all_in_range}
 use Rattle.checker.proofs.cover.has_all.Goals as goal
-
-pub loop-h-init : goal.loop-h-init
-loop-h-init c = (omega arith, omega arith, refl)
-
-pub returns-then-not-has : goal.returns-then-not-has
-returns-then-not-has c =
-    let l = c.loop-h in
-    range-stops (bit c.args.set) l.h
-    c.args.end (omega arith) l.invariant.2
-    (sym c.has.ensures ∙ c.if-not-has.true)
-
-pub loop-h-preserved : goal.loop-h-preserved
-loop-h-preserved c =
-    let l = c.loop-h in (
-      omega arith,
-      omega arith,
-      range-goes (bit c.args.set) l.h
-          c.args.end (omega arith) l.invariant.2
-          (sym c.has.ensures ∙ c.if-not-has.false),
-    )
 
 pub returns : goal.returns
 returns c =
-    sym (c.loop-h.invariant.2 ∙ rw (range_none c.loop-h.h c.args.end (omega arith)))
+    let a = c.args in
+    all_in_range (bit a.set) a.first (a.end - a.first) c.all.result
+    (cases_from_all _ _ _ (λ h. bit a.set h ≡ true) (λ h. bit a.set h ≡ false) c.all.ensures.ran
+    (YieldsList-from_range a.first a.end (a.end - a.first) refl refl)
+    (λ x q k. search (rules, tests)) (λ x q k. search (rules, tests)))

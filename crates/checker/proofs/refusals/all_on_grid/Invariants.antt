@@ -13,6 +13,3 @@ abbrev pub invariant-loop-k : goal.invariant-loop-k
 invariant-loop-k l = (l.k ≤ l.count)
     × (all (is_grid_point (shape l.g)) (listed l.g.indices l.count l.numbers)
     ≡ all (is_grid_point (shape l.g)) (map (listed_at l.g.indices l.numbers) (up_from l.k (l.count - l.k))))
-
-abbrev pub decreases-loop-k : goal.decreases-loop-k
-decreases-loop-k l = l.count - l.k

@@ -1,6 +1,5 @@
 -- `refinement::runs::run_level` meets its contract. Assumes nothing.
 use mathlib.Core.Path.{refl, sym, ap, ◌∙◌}
-use borrow.Author.Rules.{rules}
 use Rattle.refinement.proofs.LevelRuns.{can_announce, not_end, told, written}
 use Rattle.refinement.specs.Answer.{level_of}
 use Rattle.refinement.proofs.runs.run_level.Goals as goal
@@ -16,8 +15,8 @@ pub bound-requires : goal.bound-requires
 bound-requires c =
     c.requires.made
 
-pub announced-found-requires : goal.announced-found-requires
-announced-found-requires c =
+pub announced-requires : goal.announced-requires
+announced-requires c =
     let a = c.args in
     can_announce a.grid a.start.now a.losses.now _ _ c.requires _
     c.label_on.ensures _ _
@@ -26,7 +25,7 @@ announced-found-requires c =
 pub returns-in-End : goal.returns-in-End
 returns-in-End c =
     let a = c.args in
-    let w = c.announced-found in
+    let w = c.announced in
     let b = c.bound in record {
       level = ap level_of (sym c.in-End.is) ∙ told a.grid a.start.now a.losses.now _ _ c.requires _
           c.label_on.ensures b.result b.ensures w.result w.ensures.value;
@@ -39,7 +38,7 @@ returns-in-End c =
 pub returns-in_default : goal.returns-in_default
 returns-in_default c =
     let a = c.args in
-    let w = c.announced-found in
+    let w = c.announced in
     let b = c.bound in record {
       level = c.no_level.ensures
           ∙ sym (not_end w.result c.in_default.not-End)

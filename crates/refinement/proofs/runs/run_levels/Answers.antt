@@ -2,8 +2,7 @@
 -- buffers. Assumes nothing.
 use mathlib.Core.List.{List}
 use mathlib.Core.Path.{◌≡◌, refl, sym, ap, ◌∙◌}
-use Prim.Native.Nat.{ℕ, ◌≤◌, ◌<◌, ◌-◌}
-use borrow.Author.Rules.{rules}
+use Prim.Native.Nat.{ℕ, ◌<◌}
 use native.Mathlib.Omega.{arith}
 use lib.ListN.{length, set}
 use Rattle.refinement_levels.specs.Buffers.{numbers_after}
@@ -19,7 +18,7 @@ pub loop-i-init : goal.loop-i-init
 loop-i-init c =
     let a = c.args in
     let r = game_of a.grids a.start.now a.losses.now a.factor in (
-      rw c.no_level-none.ensures (sym (levels_none r)),
+      rw c.no_level-found.ensures (sym (levels_none r)),
       refl,
       sym
           (answer-first r a.levels a.grids a.labels.now a.answer.now c.requires),

@@ -1,30 +1,28 @@
 -- `refinement::runs::scaled` meets its contract. The invariant: the numbers so far, times k, stand at the front.
 -- Assumes nothing.
 use mathlib.Core.Path.{◌≡◌, sym, ◌∙◌}
-use Prim.Native.Nat.{◌*◌, ◌≤◌, ◌-◌}
-use borrow.Author.Rules.{rules}
+use Prim.Native.Nat.{◌*◌, ◌≤◌}
 use borrow.Author.Tests.{leb-true}
 use lib.Dec.{leb}
-use lib.ListN.{length, get_or, length-map, replicate, take}
+use lib.ListN.{length, get_or, length-map, replicate}
 use native.Mathlib.Omega.{arith}
 use Rattle.combinatorics.proofs.Fronts.{front-copy, front-none, front-whole}
 use Rattle.combinatorics.proofs.Lists.{at_all}
-use Rattle.combinatorics.specs.Front.{front}
 use Rattle.refinement_levels.proofs.Grids.{times-at}
 use Rattle.refinement_levels.specs.Levels.{times}
 use Rattle.refinement.proofs.runs.scaled.Goals as goal
-use Rattle.refinement.proofs.runs.scaled.Goals.{After-wide16}
+use Rattle.refinement.proofs.runs.scaled.Goals.{After-from}
 
 -- the product fits
-fits : (c : After-wide16)
-    → c.args.factor * c.wide16.result ≤ 65535
+fits : (c : After-from)
+    → c.args.factor * c.from.result ≤ 65535
 fits c =
     let h = c.loop-h.h in
     let l =
     leb-true _ _ (at_all (λ x. leb (c.args.factor * x) 65535) c.args.numbers.now h c.requires.small
     (omega arith))
     in
-    rw c.wide16.ensures.0 l
+    rw c.from.ensures l
 
 pub loop-h-init : goal.loop-h-init
 loop-h-init c = (sym (front-none (replicate 16 0)), omega arith)
@@ -48,8 +46,8 @@ loop-h-preserved c =
     let long : length all ≡ length c.args.numbers.now =
     length-map c.args.numbers.now (λ x. c.args.factor * x)
     in
-    let e : c.args.factor * c.wide16.result ≡ get_or all l.h 0 =
-    rw (times-at c.args.factor c.args.numbers.now l.h, c.wide16.ensures.0)
+    let e : c.args.factor * c.from.result ≡ get_or all l.h 0 =
+    rw (times-at c.args.factor c.args.numbers.now l.h, c.from.ensures)
     in (
       rw (l.invariant.0, e) (front-copy all (replicate 16 0) l.h (omega (arith, long)) (omega (arith, c.requires.few))),
       omega arith,

@@ -1,6 +1,5 @@
 -- `refinement::runs::start_of` meets its contract. Assumes nothing.
 use Prim.Native.Nat.{◌-◌, ◌*◌, ◌≤◌}
-use borrow.Author.Rules.{rules}
 use native.Mathlib.Omega.{arith}
 use Rattle.grid.proofs.Fields.{indices-few}
 use Rattle.refinement.proofs.LevelStarts.{ends-inside, part_fits, room-begins, start_first, start-later}

@@ -1,7 +1,5 @@
 -- `refinement_questions::grids::next_grid` meets its contract. Assumes nothing.
 use mathlib.Core.Path.{sym, ap, ◌∙◌}
-use borrow.Author.Rules.{rules}
-use borrow.Author.Tests.{not-false, not-true}
 use lib.Seq.{length-take-le}
 use native.Mathlib.Omega.{arith}
 use Rattle.game_labels.proofs.Outcomes.{blocks-room}
@@ -13,36 +11,25 @@ use Rattle.refinement_questions.proofs.grids.next_grid.Goals as goal
 pub returns-then-not-next : goal.returns-then-not-next
 returns-then-not-next c =
     let n = c.next_divisions-next in
-    next-refused c.args.grid c.requires.0 c.args.factor c.requires.1 n.result n.ensures c.none-none.result
-    c.none-none.ensures (not-true _ c.if-not-next.true)
+    next-refused c.args.grid c.requires.0 c.args.factor c.requires.1 n.result n.ensures c.none.result
+    c.none.ensures c.if-not-next.true
 
-pub slice_bounds-sizes-end : goal.slice_bounds-sizes-end
-slice_bounds-sizes-end c =
-    (blocks-room c.args.grid c.requires.0).0
+pub shared_ref_as_front-new : goal.shared_ref_as_front-new
+shared_ref_as_front-new c = (blocks-range c.args.grid c.requires.0).1
 
 pub slice_bounds-new-end : goal.slice_bounds-new-end
-slice_bounds-new-end c = sym (length-take-le _ _ ((blocks-room c.args.grid c.requires.0).0))
+slice_bounds-new-end c = sym (length-take-le _ _ (blocks-room c.args.grid c.requires.0).0)
 
-pub slice_bounds-divisions-end : goal.slice_bounds-divisions-end
-slice_bounds-divisions-end c =
-    omega (
-      arith,
-      c.next_divisions-next.ensures.whole,
-      (blocks-range
-          c.args.grid c.requires.0).1,
-    )
+pub shared_ref_as_front-new-2 : goal.shared_ref_as_front-new-2
+shared_ref_as_front-new-2 c = (blocks-range c.args.grid c.requires.0).1
 
 pub slice_bounds-new-end-2 : goal.slice_bounds-new-end-2
-slice_bounds-new-end-2 c = sym (length-take-le _ _ (omega (
-  arith,
-  c.next_divisions-next.ensures.whole,
-  (blocks-range
-      c.args.grid c.requires.0).1,
-)))
+slice_bounds-new-end-2 c = sym (length-take-le _ _
+    (omega (arith, c.next_divisions-next.ensures.whole, (blocks-range c.args.grid c.requires.0).1)))
 
 pub returns : goal.returns
 returns c =
     let n = c.next_divisions-next in
     c.new.ensures
     ∙ ap made_of (next-lent c.args.grid c.requires.0 c.args.factor c.requires.1 n.result n.ensures
-    (not-false _ c.if-not-next.false))
+    c.if-not-next.false)

@@ -3,8 +3,6 @@
 use mathlib.Core.Bool.{true}
 use mathlib.Core.Path.{◌≡◌, sym, ap, ◌∙◌}
 use Prim.Native.Nat.{ℕ, ◌*◌, ◌≤◌}
-use borrow.Author.Rules.{rules}
-use borrow.Author.Tests.{not-false, not-true}
 use lib.ListN.{length}
 use lib.Seq.{length-take-le}
 use native.Mathlib.Nat.{mul-le-mul}
@@ -19,7 +17,7 @@ use Rattle.game_losses.specs.Game.{product}
 use Rattle.game_losses.specs.Table.{in_range, num_losses}
 use Rattle.refinement_questions.proofs.Asked.{no_buffer, no_length, no-range, no_room, no_start, none-no}
 use Rattle.refinement_questions.proofs.later.first_level_no.Goals as goal
-use Rattle.refinement_questions.proofs.later.first_level_no.Goals.{After-num_profiles, Else-losses-blocks, Else-not-in_range, Else-not-is_grid_point}
+use Rattle.refinement_questions.proofs.later.first_level_no.Goals.{After-num_profiles, Else-losses-grid, Else-not-in_range, Else-not-is_grid_point}
 
 pub returns-then-not-is_grid_point : goal.returns-then-not-is_grid_point
 returns-then-not-is_grid_point c =
@@ -30,9 +28,8 @@ returns-then-not-is_grid_point c =
 on : (c : Else-not-is_grid_point) → is_grid_point (shape c.args.grid) c.args.start.now ≡ true
 on c = sym c.is_grid_point.ensures ∙ c.if-not-is_grid_point.false
 
-pub slice_bounds-sizes-end : goal.slice_bounds-sizes-end
-slice_bounds-sizes-end c =
-    (blocks-room c.args.grid c.requires.0).0
+pub shared_ref_as_front-num_profiles : goal.shared_ref_as_front-num_profiles
+shared_ref_as_front-num_profiles c = (blocks-range c.args.grid c.requires.0).1
 
 pub slice_bounds-num_profiles-end : goal.slice_bounds-num_profiles-end
 slice_bounds-num_profiles-end c = sym (length-take-le _ _ ((blocks-room c.args.grid c.requires.0).0))
@@ -48,8 +45,8 @@ count-is c =
     ap (λ (n : ℕ). g.blocks * n) c.num_profiles.ensures
     ∙ ap (λ (n : ℕ). n * product (shape g).sizes) (made-blocks g c.requires.0)
 
-pub overflow_mul-blocks : goal.overflow_mul-blocks
-overflow_mul-blocks c =
+pub overflow_mul-grid : goal.overflow_mul-grid
+overflow_mul-grid c =
     let g = c.args.grid in
     let few = product-few (shape g).sizes (made-accepted g c.requires.0).few_indices in
     let m : g.blocks * c.num_profiles.result ≤ 6 * 324 =
@@ -58,22 +55,22 @@ overflow_mul-blocks c =
     in
     omega arith
 
-pub returns-then-losses-blocks : goal.returns-then-losses-blocks
-returns-then-losses-blocks c =
+pub returns-then-losses-grid : goal.returns-then-losses-grid
+returns-then-losses-grid c =
     let a = c.args in
     no_length (shape a.grid) a.points a.start.now a.losses.now a.levels a.label_room a.room
-    (on (goal.at.returns-then-losses-blocks c).Else-not-is_grid_point) (λ e. c.if-losses-blocks.true (e ∙ sym (count-is (goal.at.returns-then-losses-blocks c).After-num_profiles)))
+    (on (goal.at.returns-then-losses-grid c).Else-not-is_grid_point) (λ e. c.if-losses-grid.true (e ∙ sym (count-is (goal.at.returns-then-losses-grid c).After-num_profiles)))
 
 -- question 10 answered yes
-whole : (c : Else-losses-blocks) → (let a = c.args in
+whole : (c : Else-losses-grid) → (let a = c.args in
     length a.losses.now ≡ num_losses (shape a.grid))
-whole c = c.if-losses-blocks.false ∙ count-is (goal.at.Else-losses-blocks c).After-num_profiles
+whole c = c.if-losses-grid.false ∙ count-is (goal.at.Else-losses-grid c).After-num_profiles
 
 pub returns-then-not-in_range : goal.returns-then-not-in_range
 returns-then-not-in_range c =
     let a = c.args in
     no-range (shape a.grid) a.points a.start.now a.losses.now a.levels a.label_room a.room
-    (on (goal.at.returns-then-not-in_range c).Else-not-is_grid_point) (whole (goal.at.returns-then-not-in_range c).Else-losses-blocks) (sym c.in_range.ensures ∙ c.if-not-in_range.true)
+    (on (goal.at.returns-then-not-in_range c).Else-not-is_grid_point) (whole (goal.at.returns-then-not-in_range c).Else-losses-grid) (sym c.in_range.ensures ∙ c.if-not-in_range.true)
 
 range : (c : Else-not-in_range) → all in_range c.args.losses.now ≡ true
 range c = sym c.in_range.ensures ∙ c.if-not-in_range.false
@@ -82,7 +79,7 @@ pub returns-then-label_room-points : goal.returns-then-label_room-points
 returns-then-label_room-points c =
     let a = c.args in
     no_buffer (shape a.grid) a.points a.start.now a.losses.now a.levels a.label_room a.room
-    (on (goal.at.returns-then-label_room-points c).Else-not-is_grid_point) (whole (goal.at.returns-then-label_room-points c).Else-losses-blocks) (range (goal.at.returns-then-label_room-points c).Else-not-in_range) c.if-label_room-points.true
+    (on (goal.at.returns-then-label_room-points c).Else-not-is_grid_point) (whole (goal.at.returns-then-label_room-points c).Else-losses-grid) (range (goal.at.returns-then-label_room-points c).Else-not-in_range) c.if-label_room-points.true
 
 pub overflow_mul-levels : goal.overflow_mul-levels
 overflow_mul-levels c =
@@ -93,12 +90,12 @@ pub returns-then-room-levels : goal.returns-then-room-levels
 returns-then-room-levels c =
     let a = c.args in
     no_room (shape a.grid) a.points a.start.now a.losses.now a.levels a.label_room a.room
-    (on (goal.at.returns-then-room-levels c).Else-not-is_grid_point) (whole (goal.at.returns-then-room-levels c).Else-losses-blocks) (range (goal.at.returns-then-room-levels c).Else-not-in_range) c.if-label_room-points.false
+    (on (goal.at.returns-then-room-levels c).Else-not-is_grid_point) (whole (goal.at.returns-then-room-levels c).Else-losses-grid) (range (goal.at.returns-then-room-levels c).Else-not-in_range) c.if-label_room-points.false
     (rw c.room_of.ensures.0 at c.if-room-levels.true)
 
 pub returns : goal.returns
 returns c =
     let a = c.args in
     none-no (shape a.grid) a.points a.start.now a.losses.now a.levels a.label_room a.room
-    (on (goal.at.returns c).Else-not-is_grid_point) (whole (goal.at.returns c).Else-losses-blocks) (range (goal.at.returns c).Else-not-in_range) c.if-label_room-points.false
+    (on (goal.at.returns c).Else-not-is_grid_point) (whole (goal.at.returns c).Else-losses-grid) (range (goal.at.returns c).Else-not-in_range) c.if-label_room-points.false
     (rw c.room_of.ensures.0 at c.if-room-levels.false)

@@ -1,37 +1,21 @@
--- `shelf::passes::is_replaced` meets its contract. The invariant: none of the sheets passed names the sheet.
--- Assumes nothing.
-use mathlib.Core.Path.{◌≡◌, refl, sym, ◌∙◌}
-use native.Mathlib.Omega.{arith}
-use Rattle.shelf.proofs.Entries.{found, passed_other}
+-- `shelf::passes::is_replaced` meets its contract: the entries of the sheets filed are searched. Assumes nothing.
+use mathlib.Core.Path.{◌≡◌, sym}
+use borrow.Author.Rules.{rules}
+use borrow.Author.Tests.{tests}
+use lib.ListN.{take}
+use lib.Seq.{length-take-le}
+use Rattle.std.proofs.lemmas.Iterator.{YieldsList-from_slice, cases_from_any}
+use Rattle.shelf.proofs.Entries.{any_names}
 use Rattle.shelf.proofs.Sheets.{shelf_of}
-use Rattle.shelf.specs.Shelf.{is_replaced}
 use Rattle.shelf.proofs.passes.is_replaced.Goals as goal
 
-pub loop-k-init : goal.loop-k-init
-unfolding is_replaced
-loop-k-init c = (
-  refl,
-  c.requires.numbered,
-  omega arith,
-  (shelf_of c.args.list.now c.requires.passes).room,
-)
-
-pub returns-then-wide16-sheet : goal.returns-then-wide16-sheet
-returns-then-wide16-sheet c =
-    let a = c.args in
-    let e = sym c.wide16.ensures.0 ∙ c.if-wide16-sheet.true in
-    sym (found a.list.now a.count c.loop-k.k a.sheet (omega arith)
-    (omega arith) e)
-
-pub loop-k-preserved : goal.loop-k-preserved
-loop-k-preserved c =
-    let a = c.args in
-    let l = c.loop-k in
-    let other = passed_other a.list.now l.k a.sheet (λ e. c.if-wide16-sheet.false (c.wide16.ensures.0 ∙ e)) in
-    (other ∙ l.invariant.0, omega arith, omega arith, omega arith)
+pub slice_bounds-iter-end : goal.slice_bounds-iter-end
+slice_bounds-iter-end c = sym (length-take-le _ _ (shelf_of c.args.list.now c.requires.passes).room)
 
 pub returns : goal.returns
 returns c =
     let a = c.args in
-    let e : a.count ≡ c.loop-k.k = omega arith in
-    rw e (sym c.loop-k.invariant.0)
+    any_names a.list.now a.count a.sheet c.any.result (shelf_of a.list.now c.requires.passes).room c.requires.numbered
+    (cases_from_any _ _ _ (λ x. x ≡ a.sheet) (λ x. x ≡ a.sheet → ⊥) c.any.ensures.ran
+    (YieldsList-from_slice (take a.count a.list.now) cc)
+    (λ x q k. search (rules, tests)) (λ x q k. search (rules, tests)))

@@ -1,4 +1,4 @@
--- `nesting::fill_sets` meets its contract. The invariant: the points so far have their sets. The measure: the points
+-- `nesting::sets_of` meets its contract. The invariant: the points so far have their sets. The measure: the points
 -- left. Assumes nothing.
 use mathlib.Core.Bool.{Bool}
 use mathlib.Core.List.{map}
@@ -11,7 +11,7 @@ use Rattle.grid.specs.Made.{shape}
 use Rattle.grid.specs.declared.Grid.{Grid as GridStruct}
 use Rattle.check_simplices.specs.Chains.{coefficients_from, zero_or_one}
 use Rattle.check_chains.specs.Listed.{listed, listed_at, AreSets}
-use Rattle.check_chains.proofs.nesting.fill_sets.Given as goal
+use Rattle.check_chains.proofs.nesting.sets_of.Given as goal
 
 -- a point has a set
 abbrev pub zero_or_one_from : GridStruct → Point → Point → Bool
@@ -21,6 +21,3 @@ abbrev pub invariant-loop-k : goal.invariant-loop-k
 invariant-loop-k l = (l.k ≤ l.count) × (length l.sets ≡ 16) × AreSets l.g l.p l.numbers l.k l.sets
     × (all (zero_or_one_from l.g l.p) (listed l.g.indices l.count l.numbers)
     ≡ all (zero_or_one_from l.g l.p) (map (listed_at l.g.indices l.numbers) (up_from l.k (l.count - l.k))))
-
-abbrev pub decreases-loop-k : goal.decreases-loop-k
-decreases-loop-k l = l.count - l.k
