@@ -18,7 +18,7 @@ use Rattle.game_corners.proofs.CornerLosses.{cornered_turn}
 use Rattle.game_corners.proofs.Picked.{picked_stand}
 use Rattle.game_corners.specs.Corners.{last_player, corner, CornersToWeigh}
 use Rattle.game_corners.proofs.weighing.weigh_corner.Goals as goal
-use Rattle.game_corners.proofs.weighing.weigh_corner.Goals.{Start, After-wide-first, After-corner-corner, After-pick}
+use Rattle.game_corners.proofs.weighing.weigh_corner.Goals.{Start, After-from-first, After-corner-corner, After-pick}
 
 -- what is known of the game
 module _ (s : Start) where
@@ -39,12 +39,12 @@ module _ (s : Start) where
       (omega (arith, s.requires.1), yes.few_indices, omega (arith, s.requires.1, yes.few_indices))
 
 -- what is known once the first index is read
-module _ (c : After-wide-first) where
+module _ (c : After-from-first) where
   abbrev start : Start
-  start = (goal.at.After-wide-first c).Start
+  start = (goal.at.After-from-first c).Start
 
-  first-is : c.wide-first.result ≡ first_index (g start) (last_player (g start))
-  first-is = c.wide-first.ensures
+  first-is : c.from-first.result ≡ first_index (g start) (last_player (g start))
+  first-is = c.from-first.ensures
       ∙ ((game start).points c.args.k c.requires.1).grid.first (last_player (g start))
       (omega (arith, (yes start).some_block))
 
@@ -59,7 +59,7 @@ module _ (c : After-corner-corner) where
   is_held = c.corner-corner.ensures
       ∙ ap
       (λ (f : ℕ). set (front (take f c.args.point.now) (replicate 16 0)) (f + c.args.k) 1)
-      (first-is (goal.at.After-corner-corner c).After-wide-first)
+      (first-is (goal.at.After-corner-corner c).After-from-first)
 
   long : length c.corner-corner.result ≡ 16
   long = ap length is_held
@@ -105,7 +105,7 @@ overflow_add-first c = omega (arith, first-is c, (ends (start c)).0, (ends (star
 
 pub corner-corner-requires : goal.corner-corner-requires
 corner-corner-requires c =
-    let w = (goal.at.corner-corner-requires c).After-wide-first in
+    let w = (goal.at.corner-corner-requires c).After-from-first in
     let e = ends (start w) in (
       omega (arith, first-is w, e.0, (game (start w)).whole),
       omega (arith, first-is w, e.0, e.1),
