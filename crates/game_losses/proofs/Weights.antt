@@ -5,8 +5,8 @@ use mathlib.Core.Path.{◌≡◌, refl, ap, ◌∙◌, subst}
 use Prim.Native.Nat.{ℕ, zero, suc, ◌+◌, ◌*◌, ◌≤◌, ◌<◌}
 use lib.Dec.{leb, ltb}
 use lib.ListN.{length, get_or, take, drop, set, replicate, length-append, length-map, length-replicate, get_or-replicate}
-use lib.ListN.{get_or-map}
-use lib.Seq.{paste, paste-suc, length-take-le, get_or-take, drop-drop}
+use lib.ListN.{drop_of_length-le, get_or-map}
+use lib.Seq.{paste, paste-suc, length-take-le, get_or-take, drop-cons, drop-drop}
 use native.Mathlib.Nat.{mul-le-mul_left}
 use native.Mathlib.Numerals.{add-one}
 use native.Mathlib.Omega.{arith}
@@ -95,6 +95,14 @@ chances (x ∷ xs) = at-profiles x xs (profiles (map length xs)) (up_from 0 (len
   where
     whole : (x : List ℕ) → map (at x) (up_from 0 (length x)) ≡ x
     whole x = rw append-nil at (first-append x [])
+
+-- a sum of products, one product a turn
+pub dot_turn : (u t : List ℕ) (i : ℕ) → i < length u → i < length t
+    → dot (drop i u) (drop i t) ≡ get_or u i 0 * get_or t i 0 + dot (drop (i + 1) u) (drop (i + 1) t)
+dot_turn u t i a b = rw (drop-cons u i 0 a, drop-cons t i 0 b, add-one)
+
+pub dot-done : (u t : List ℕ) (i : ℕ) → length u ≤ i → dot (drop i u) t ≡ 0
+dot-done u t i h = rw (drop_of_length-le u h)
 
 -- the losses of a player's strategies written one after the other
 module _ (old mix values : List ℕ) (first k : ℕ) (inside : first + length mix ≤ length old)

@@ -14,7 +14,7 @@ use native.Mathlib.Numerals.{add-one}
 use native.Mathlib.Omega.{arith}
 use Rattle.combinatorics.proofs.Agreement.{map_range, all_drop}
 use Rattle.combinatorics.proofs.Basics.{true_or_false, and_right, before_or_not}
-use Rattle.combinatorics.proofs.Lists.{at_all, eqb_self, sums_rise}
+use Rattle.combinatorics.proofs.Lists.{at_all, sums_rise}
 use Rattle.combinatorics.proofs.Turns.{map-append, up_from-next}
 use Rattle.combinatorics.specs.Lists.{all, filter, sum, up_from}
 use Rattle.grid_points.proofs.Accepted.{Accepted, size-two}
@@ -43,9 +43,6 @@ mix-kept g y z l e i h = map_range _ _ (first_index g i) (size g i) (λ t m.
     ∙ get_or-take (first_index g l) z (first_index g i + t) 0 low)
 
 module _ (g : Grid) (j : ℕ) where
-  pub against_own : size_against g j j ≡ 1
-  against_own = rw (eqb_self j)
-
   pub against_other : (i : ℕ) → (i ≡ j → ⊥) → size_against g j i ≡ size g i
   against_other i n = rw (ne_eqb i j n)
 
