@@ -5,7 +5,7 @@ ghost use Rattle.grid_points.specs.Grid.{lent, num_indices};
 ghost use Rattle.game_losses.specs.Game.{difference as difference_of, dot as dot_of};
 ghost use Rattle.game_point.specs.Label.{GameAt, OwnLosses};
 
-// The sum of the mix's numbers times the values, entry by entry.
+// The sum of the mix's numbers times the values, entry by entry, in 64 bits.
 fn dot(mix: &[u16], values: &[u64]) -> u64
     requires { (length mix.now ≤ length values.now) × (dot_of mix.now values.now ≤ 9000000000000000000) }
     ensures { result ≡ dot_of mix.now values.now }

@@ -1,6 +1,6 @@
 -- `weigh_corner` meets its contract: the row of the corner is written behind those before it. Assumes nothing.
 use mathlib.Core.List.{List}
-use mathlib.Core.Path.{◌≡◌, refl, sym, ap, ◌∙◌, subst}
+use mathlib.Core.Path.{◌≡◌, sym, ap, ◌∙◌, subst}
 use Prim.Native.Nat.{ℕ, ◌+◌, ◌-◌, ◌*◌, ◌≤◌, ◌<◌}
 use native.Mathlib.Omega.{arith}
 use borrow.Author.Rules.{rules}
@@ -92,16 +92,10 @@ module _ (c : After-pick) where
       c.args.owners.now losses c.args.levels.now (game s).owned stand c.pick.new.values
       (λ h b. c.pick.ensures.1 h (omega (arith, (game s).whole))))
 
-pub overflow_sub-last : goal.overflow_sub-last
-overflow_sub-last c = omega (arith, (game (goal.at.overflow_sub-last c).Start).some)
-
 pub bounds-firsts-last : goal.bounds-firsts-last
 bounds-firsts-last c =
     let s = (goal.at.bounds-firsts-last c).Start in
     omega (arith, (yes s).few_blocks, (game s).some)
-
-pub overflow_add-first : goal.overflow_add-first
-overflow_add-first c = omega (arith, first-is c, (ends (start c)).0, (ends (start c)).1)
 
 pub corner-corner-requires : goal.corner-corner-requires
 corner-corner-requires c =
@@ -112,21 +106,14 @@ corner-corner-requires c =
       omega (arith, first-is w, e.0, e.1),
     )
 
-pub overflow_mul-at : goal.overflow_mul-at
-overflow_mul-at c = omega (arith, (ends (goal.at.overflow_mul-at c).Start).2)
-
-pub pick-requires : goal.pick-requires
-pick-requires c =
-    let s = (goal.at.pick-requires c).Start in
-    let e = ends s in
-    record {
-      last_bound = (
-        omega (arith, (yes s).few_blocks, (game s).some),
-        omega (arith, e.2),
-        omega (arith, (game s).whole, e.1),
-      );
-      levels_len = ((game s).numbers, refl);
-    }
+pub pick-requires-clause-last_bound : goal.pick-requires-clause-last_bound
+pick-requires-clause-last_bound c =
+    let s = (goal.at.pick-requires-clause-last_bound c).Start in
+    let e = ends s in (
+      omega (arith, (yes s).few_blocks, (game s).some),
+      omega (arith, e.2),
+      omega (arith, (game s).whole, e.1),
+    )
 
 pub slice_bounds-corner-end : goal.slice_bounds-corner-end
 slice_bounds-corner-end c =
@@ -160,21 +147,11 @@ weigh_point-requires c =
       record { of_expected = (ends s).1; of_replaced = (ends s).1 },
     )
 
-pub overflow_add-at : goal.overflow_add-at
-overflow_add-at c = omega (arith, (ends (goal.at.overflow_add-at c).Start).2)
-
-pub offset_bounds-differences-at : goal.offset_bounds-differences-at
-offset_bounds-differences-at c =
-    omega (arith, (ends (goal.at.offset_bounds-differences-at c).Start).2)
-
 pub slice_bounds-put_differences-end : goal.slice_bounds-put_differences-end
 slice_bounds-put_differences-end c =
     let e = (ends (goal.at.slice_bounds-put_differences-end c).Start).2 in
     let x = game (goal.at.slice_bounds-put_differences-end c).Start in
     search rules
-
-pub put_differences-requires : goal.put_differences-requires
-put_differences-requires c = search rules
 
 pub returns : goal.returns
 returns c =

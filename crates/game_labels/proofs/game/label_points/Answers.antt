@@ -152,13 +152,6 @@ weigh_changed-requires c =
       },
     )
 
-pub offset_bounds-point-from : goal.offset_bounds-point-from
-offset_bounds-point-from c =
-    let w = (goal.at.offset_bounds-point-from c).In-loop-label in
-    let s = (goal.at.offset_bounds-point-from c).Start in
-    let ok = yes s in
-    omega (arith, first-inside w, point-length (g s) ok c.loop-label.point (here w).is_point, ok.few_indices)
-
 pub slice_bounds-label_point-count : goal.slice_bounds-label_point-count
 slice_bounds-label_point-count c = first-inside (goal.at.slice_bounds-label_point-count c).In-loop-label
 

@@ -45,19 +45,8 @@ bounds-firsts-player c = omega (
   c.requires.1,
 )
 
-pub overflow_add-end : goal.overflow_add-end
-overflow_add-end c = omega (arith, first-is c, inside c)
-
-pub offset_bounds-point-first : goal.offset_bounds-point-first
-offset_bounds-point-first c = omega (arith, first-is c, inside c)
-
 pub slice_bounds-put_losses-end : goal.slice_bounds-put_losses-end
 slice_bounds-put_losses-end c = let e = first-is c in let i = inside c in search rules
-
-pub offset_bounds-values-first : goal.offset_bounds-values-first
-offset_bounds-values-first c =
-    let w = (goal.at.offset_bounds-values-first c).After-from in
-    omega (arith, first-is w, inside_values w)
 
 pub slice_bounds-put_losses-end-2 : goal.slice_bounds-put_losses-end-2
 slice_bounds-put_losses-end-2 c =

@@ -60,17 +60,8 @@ bounds-firsts-owner c =
 pub bounds-sizes-owner : goal.bounds-sizes-owner
 bounds-sizes-owner c = omega (arith, low (goal.at.bounds-sizes-owner c).After-from-owner)
 
-pub overflow_add-end : goal.overflow_add-end
-overflow_add-end c = omega (arith, inner c)
-
-pub offset_bounds-point-first : goal.offset_bounds-point-first
-offset_bounds-point-first c = omega (arith, inner c)
-
 pub slice_bounds-dot-end : goal.slice_bounds-dot-end
 slice_bounds-dot-end c = let e = inner c in search rules
-
-pub offset_bounds-values-first : goal.offset_bounds-values-first
-offset_bounds-values-first c = omega (arith, inner (goal.at.offset_bounds-values-first c).After-from)
 
 pub slice_bounds-dot-end-2 : goal.slice_bounds-dot-end-2
 slice_bounds-dot-end-2 c =
@@ -87,11 +78,6 @@ dot-expected-requires c =
       expected_low (game o) c.args.values.now c.requires.0.2 c.requires.1 c.args.h (inside o)
           c.from-owner.result c.from-first.result c.from.result (owner_is o) (first-is w) c.from.ensures,
     )
-
-pub offset_bounds-divisions-owner : goal.offset_bounds-divisions-owner
-offset_bounds-divisions-owner c =
-    let o = (goal.at.offset_bounds-divisions-owner c).After-from-owner in
-    omega (arith, low o, (game o).grid.few_blocks)
 
 pub bounds-divisions-owner : goal.bounds-divisions-owner
 bounds-divisions-owner c =

@@ -62,9 +62,6 @@ module _ (c : After-from) where
       c.from-owner.result c.args.count c.from.result size rest (owner_is own) c.requires.count_value.0
       first-is refl refl
 
-pub offset_bounds-rests-owner : goal.offset_bounds-rests-owner
-offset_bounds-rests-owner c = omega (arith, low c, (game c).grid.few_blocks)
-
 pub bounds-rests-owner : goal.bounds-rests-owner
 bounds-rests-owner c =
     let o = (goal.at.bounds-rests-owner c).After-from-owner in
