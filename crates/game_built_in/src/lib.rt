@@ -11,43 +11,35 @@ mod tables;
 pub fn is_game(game: u8, sizes: &[u8]) -> bool
     ensures { result ≡ (question15 game sizes.now).answered_yes }
 {
-    if game == 1 {
-        return tables::same_sizes(sizes, &tables::SIZES1);
+    match game {
+        1 => tables::same_sizes(sizes, &tables::SIZES1),
+        2 => tables::same_sizes(sizes, &tables::SIZES2),
+        3 => tables::same_sizes(sizes, &tables::SIZES3),
+        _ => false,
     }
-    if game == 2 {
-        return tables::same_sizes(sizes, &tables::SIZES2);
-    }
-    if game == 3 {
-        return tables::same_sizes(sizes, &tables::SIZES3);
-    }
-    false
 }
 
 // The losses to the front of the room, and how many there are.
+#[tactic(auto, unfolding(combinatorics::specs::Front::front))]
 fn put(losses: &[u16], room: &mut [u16]) -> usize
     requires { length losses.now ≤ length room.old }
     ensures { (result ≡ length losses.now)
         × (room.new ≡ front losses.now room.old) }
 {
-    let mut i: usize = 0;
-    while i < losses.len() {
-        room[i] = losses[i];
-        i += 1;
-    }
-    i
+    room[..losses.len()].copy_from_slice(losses);
+    losses.len()
 }
 
 // The losses of the game to the front of the room, and how many there are: 24, 81 or 64.
+#[tactic(auto, unfolding(crate::specs::Tables::losses1, crate::specs::Tables::losses2, crate::specs::Tables::losses3))]
 pub fn put_losses(game: u8, room: &mut [u16]) -> usize
     requires { 81 ≤ length room.old }
     ensures { (result ≡ length (game_losses game))
         × (room.new ≡ front (game_losses game) room.old) }
 {
-    if game == 1 {
-        return put(&tables::LOSSES1, room);
+    match game {
+        1 => put(&tables::LOSSES1, room),
+        2 => put(&tables::LOSSES2, room),
+        _ => put(&tables::LOSSES3, room),
     }
-    if game == 2 {
-        return put(&tables::LOSSES2, room);
-    }
-    put(&tables::LOSSES3, room)
 }

@@ -28,15 +28,5 @@ pub const LOSSES3: [u16; 64] = [
 pub fn same_sizes(a: &[u8], b: &[u8]) -> bool
     ensures { result ≡ same eqb a.now b.now }
 {
-    if a.len() != b.len() {
-        return false;
-    }
-    let mut i: usize = 0;
-    while i < a.len() {
-        if a[i] != b[i] {
-            return false;
-        }
-        i += 1;
-    }
-    true
+    a == b
 }

@@ -1,7 +1,7 @@
 -- Rows of 16 integers: what is added to totals, and what is written into a table of rows. Assumes nothing.
 use mathlib.Core.List.{List, ◌++◌}
 use mathlib.Core.Logic.{⊎_elim}
-use mathlib.Core.Path.{◌≡◌, refl, sym, ◌∙◌, subst}
+use mathlib.Core.Path.{◌≡◌, sym, ◌∙◌, subst}
 use Prim.Native.Nat.{ℕ, ◌+◌, ◌*◌, ◌≤◌, ◌<◌}
 use lib.IntN.{ℤ, pos, ◌+ℤ◌, ◌*ℤ◌}
 use lib.ListN.{length, get_or, take, drop, set, get_or-append}
@@ -28,9 +28,6 @@ pub record Added (old row : List ℤ) (x : ℤ) (h : ℕ) (totals : List ℤ) : 
   pub left : (i : ℕ) → h ≤ i → signed_at totals i ≡ signed_at old i
 
 module _ (old row : List ℤ) (x : ℤ) where
-  pub added_start : Added old row x 0 old
-  added_start = record { done = λ i h. absurd (omega arith); left = λ i h. refl }
-
   pub added_turn : (h : ℕ) (totals : List ℤ) (v : ℤ) → h < length totals → v ≡ signed_at old h +ℤ x *ℤ signed_at row h
       → Added old row x h totals
       → Added old row x (h + 1) (set totals h v)

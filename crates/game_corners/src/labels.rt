@@ -12,11 +12,8 @@ fn add_times(totals: &mut [i64; 16], x: i64, row: &[i64], count: usize)
     ensures { (length totals.new ≡ 16) × ((h : ℕ) → h < count
         → signed_at totals.new h ≡ signed_at totals.old h +ℤ x *ℤ signed_at row.now h) }
 {
-    let mut h: usize = 0;
-    while h < count {
-        let total = totals[h] + x * row[h];
-        totals[h] = total;
-        h += 1;
+    for h in 0..count {
+        totals[h] += x * row[h];
     }
 }
 
@@ -27,10 +24,8 @@ fn add_rows(totals: &mut [i64; 16], mix: &[u16], rows: &[i64], count: usize)
     ensures { (h : ℕ) → h < count
         → signed_at totals.new h ≡ column mix.now rows.now h }
 {
-    let mut k: usize = 0;
-    while k < mix.len() {
-        add_times(totals, mix[k] as i64, &rows[k * 16..], count);
-        k += 1;
+    for (k, number) in mix.iter().enumerate() {
+        add_times(totals, i64::from(*number), &rows[k * 16..], count);
     }
 }
 

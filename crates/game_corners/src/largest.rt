@@ -8,7 +8,7 @@ ghost use Rattle.game_losses.specs.Game.{first_largest};
 fn signed_difference(expected: u32, replaced: u32) -> i64
     ensures { (result ≡ pos expected -ℤ pos replaced) × (nat_abs result < 4294967296) }
 {
-    (expected as i64) - (replaced as i64)
+    i64::from(expected) - i64::from(replaced)
 }
 
 // The expected losses less the replaced ones, entry by entry.
@@ -17,11 +17,8 @@ pub fn put_differences(differences: &mut [i64], expected: &[u32; 16], replaced: 
     ensures { (h : ℕ) → h < 16 → (let d = signed_at differences.new h in
         ((d ≡ pos (at expected.now h) -ℤ pos (at replaced.now h)) × (nat_abs d < 4294967296))) }
 {
-    let mut h: usize = 0;
-    while h < 16 {
-        let d = signed_difference(expected[h], replaced[h]);
-        differences[h] = d;
-        h += 1;
+    for (h, difference) in differences.iter_mut().enumerate() {
+        *difference = signed_difference(expected[h], replaced[h]);
     }
 }
 
@@ -31,15 +28,10 @@ pub fn first_largest(differences: &[i64; 16], count: usize) -> usize
     ensures { (result ≡ first_largest (signed_at differences.now) (up_from 0 count)) × (result < count) }
 {
     let mut best: usize = 0;
-    let mut most = differences[0];
-    let mut h: usize = 1;
-    while h < count {
-        let d = differences[h];
-        if most < d {
+    for h in 1..count {
+        if differences[best] < differences[h] {
             best = h;
-            most = d;
         }
-        h += 1;
     }
     best
 }

@@ -3,8 +3,6 @@ ghost use Rattle.std.specs.Prelude.{cond, ◌≡◌, ℕ, ◌≤◌, ◌<◌, eq
 ghost use Rattle.game_corners.specs.Corners.{picked_at};
 ghost use Rattle.grid_points.specs.Grid.{at};
 
-use grid::wide;
-
 // The strategy of the last block that counts in a table: there is one alone in the tables of the last player.
 fn strategy(owner: usize, last: usize, k: usize) -> usize
     ensures { result ≡ cond (eqb owner last) 0 k }
@@ -26,11 +24,8 @@ pub fn pick(
     ensures { (length values.new ≡ 16) × ((h : ℕ) → h < indices
         → at values.new h ≡ picked_at owners.now levels.now last k h) }
 {
-    let mut h: usize = 0;
-    while h < indices {
-        let at = (last * 16 + h) * 162 + strategy(wide(owners[h]), last, k);
-        let value = levels[at];
-        values[h] = value;
-        h += 1;
+    for h in 0..indices {
+        let at = (last * 16 + h) * 162 + strategy(usize::from(owners[h]), last, k);
+        values[h] = levels[at];
     }
 }

@@ -8,7 +8,6 @@ ghost use Rattle.game_weighed.specs.Levels.{StandTo};
 use crate::largest;
 use crate::picking::pick;
 use game_losses::weigh_point;
-use grid::wide;
 
 // The point with 1 at index h and nothing else from index first on.
 fn corner(point: &[u16], first: usize, h: usize) -> [u16; 16]
@@ -16,11 +15,7 @@ fn corner(point: &[u16], first: usize, h: usize) -> [u16; 16]
     ensures { result ≡ set (front (take first point.now) (replicate 16 0)) h 1 }
 {
     let mut corner = [0u16; 16];
-    let mut i: usize = 0;
-    while i < first {
-        corner[i] = point[i];
-        i += 1;
-    }
+    corner[..first].copy_from_slice(&point[..first]);
     corner[h] = 1;
     corner
 }
@@ -48,7 +43,7 @@ fn weigh_corner(
 {
     let indices = point.len();
     let last = sizes.len() - 1;
-    let first = wide(firsts[last]);
+    let first = usize::from(firsts[last]);
     let corner = corner(point, first, first + k);
     let at = k * 16;
     let mut values = [0u32; 16];
@@ -85,10 +80,8 @@ pub fn weigh_corners(
         (losses : List ℕ) → StandTo g losses y (last_player g) levels.now
         → Cornered g losses y (num_corners g) differences.new }
 {
-    let size = wide(sizes[sizes.len() - 1]);
-    let mut k: usize = 0;
-    while k < size {
+    let size = usize::from(sizes[sizes.len() - 1]);
+    for k in 0..size {
         weigh_corner(sizes, ones, firsts, owners, point, levels, k, differences);
-        k += 1;
     }
 }

@@ -13,7 +13,6 @@ ghost use Rattle.points_in_order.specs.Lent.{WithFirsts};
 use game_corners::{label_point, weigh_corners};
 use game_losses::num_profiles;
 use game_weighed::{load_losses, rests, weigh_levels};
-use grid::wide;
 use points_in_order::next_point;
 
 // The levels behind the first block that has changed and the differences at the corners of the point. They stand there
@@ -67,7 +66,7 @@ fn label_points(
         buffer.new ≡ front (labels g losses.now) buffer.old }
 {
     let last = sizes.len() - 1;
-    let from = wide(firsts[last]);
+    let from = usize::from(firsts[last]);
     let indices = point.len();
     let rests = rests(sizes);
     let count = num_profiles(sizes);
@@ -76,8 +75,7 @@ fn label_points(
     );
     let mut first: usize = 0;
     let mut changed = true;
-    let mut k: usize = 0;
-    while k < buffer.len() {
+    for label in buffer.iter_mut() {
         weigh_changed(
             sizes,
             ones,
@@ -90,11 +88,9 @@ fn label_points(
             levels,
             differences,
         );
-        let label = label_point(&point[from..], indices, differences);
-        buffer[k] = label;
+        *label = label_point(&point[from..], indices, differences);
         first = next_point(sizes, firsts, point);
         changed = first < last;
-        k += 1;
     }
 }
 

@@ -50,18 +50,14 @@ pub fn label_on(grid: Grid, losses: &[u16], buffer: &mut [u8])
     requires { IsMade grid × IsTable (shape grid) losses.now × (length buffer.old ≡ grid.points) }
     ensures { buffer.new ≡ labels (shape grid) losses.now }
 {
-    let blocks = grid.blocks;
-    let sizes = grid.sizes;
-    let divisions = grid.divisions;
-    let padded = grid.divisions;
-    let firsts = grid.firsts;
-    let owners = grid.block;
+    let sizes = &grid.sizes[..grid.blocks];
+    let divisions = &grid.divisions[..grid.blocks];
     game::write_labels(
-        &sizes[..blocks],
-        &divisions[..blocks],
-        padded,
-        &firsts,
-        &owners,
+        sizes,
+        divisions,
+        grid.divisions,
+        &grid.firsts,
+        &grid.block,
         losses,
         grid.indices,
         buffer,

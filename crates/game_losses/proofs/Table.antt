@@ -1,19 +1,17 @@
 -- The loss table of a game, taken apart by player, and the room that a player's losses need. Assumes nothing.
-use mathlib.Core.Bool.{Bool, true, false}
+use mathlib.Core.Bool.{Bool, true}
 use mathlib.Core.List.{List, [], ◌∷◌}
-use mathlib.Core.Path.{◌≡◌, refl, sym, ap, ◌∙◌}
+use mathlib.Core.Path.{◌≡◌, refl}
 use Prim.Native.Nat.{ℕ, zero, suc, ◌+◌, ◌-◌, ◌*◌, ◌≤◌, ◌<◌}
-use borrow.Author.Tests.{leb-true, le-leb}
+use borrow.Author.Tests.{leb-true}
 use lib.Dec.{leb}
 use lib.ListN.{length, get_or, take, drop}
-use lib.Seq.{drop-cons}
-use native.Mathlib.Nat.{le_trans, mul-le-mul_left}
+use native.Mathlib.Nat.{le_trans, mul-le-mul_left, mul_assoc}
 use native.Mathlib.Omega.{arith}
 use Rattle.combinatorics.proofs.Agreement.{all_drop, all_take}
-use Rattle.combinatorics.proofs.Basics.{false_of, and_both, and_left, and_right}
+use Rattle.combinatorics.proofs.Basics.{and_both, and_left, and_right}
 use Rattle.combinatorics.proofs.Lists.{all_in, at_all, on_numbers}
 use Rattle.combinatorics.proofs.Ranges.{in_up_from}
-use Rattle.combinatorics.proofs.Turns.{all-next}
 use Rattle.combinatorics.specs.Lists.{all, sum, up_from}
 use Rattle.grid_points.specs.Grid.{Grid, num_blocks}
 use Rattle.game_losses.specs.Game.{product, losses_of}
@@ -63,11 +61,14 @@ unfolding largest
 product-few ss h = le_trans (products ss h)
     (leb-true (get_or largest (sum ss) 0) 324 (at_all (λ v. leb v 324) largest (sum ss) largest_all (omega arith)))
 
--- the product of the sizes from block j on, one block more a turn
-pub product_turn : (ss : List ℕ) (j : ℕ) → 0 < j → j ≤ length ss
-    → get_or ss (j - 1) 0 * product (drop j ss) ≡ product (drop (j - 1) ss)
-product_turn ss zero p h = absurd (omega arith)
-product_turn ss (suc j) p h = let z : suc j - 1 ≡ j = omega arith in rw z (sym (ap product (drop-cons ss j 0 h)))
+-- the product of the sizes of the first blocks, one block more a turn
+pub product-next : (ss : List ℕ) (i : ℕ) → i < length ss → product (take i ss) * get_or ss i 0 ≡ product (take (i + 1) ss)
+product-next [] i h = absurd (omega arith)
+product-next (s ∷ ss) zero h = omega arith
+product-next (s ∷ ss) (suc i) h =
+    let e : product (take i ss) * get_or ss i 0 ≡ product (take (i + 1) ss) = product-next ss i (omega arith) in
+    let z : suc i + 1 ≡ suc (i + 1) = omega arith in
+    rw (z, mul_assoc s (product (take i ss)) (get_or ss i 0), e)
 
 sum_drop : (k : ℕ) (xs : List ℕ) → sum (drop k xs) ≤ sum xs
 sum_drop zero xs = omega arith
@@ -77,12 +78,10 @@ sum_drop (suc k) (x ∷ xs) = omega (arith, sum_drop k xs)
 pub part_few : (ss : List ℕ) (k : ℕ) → sum ss ≤ 16 → product (drop k ss) ≤ 324
 part_few ss k h = product-few (drop k ss) (omega (arith, sum_drop k ss))
 
--- losses in range, one a turn
-pub range_turn : (l : List ℕ) (i : ℕ) → i < length l → all in_range (take i l) ≡ true → 1 ≤ get_or l i 0
-    → get_or l i 0 ≤ 1000
-    → all in_range (take (i + 1) l) ≡ true
-range_turn l i h a low high =
-    all-next in_range l i h ∙ and_both _ _ a (and_both _ _ (le-leb 1 _ low) (le-leb _ 1000 high))
+sum_take : (k : ℕ) (xs : List ℕ) → sum (take k xs) ≤ sum xs
+sum_take zero xs = omega arith
+sum_take (suc k) [] = omega arith
+sum_take (suc k) (x ∷ xs) = omega (arith, sum_take k xs)
 
-pub range_broken : (l : List ℕ) (i : ℕ) → i < length l → (in_range (get_or l i 0) ≡ true → ⊥) → all in_range l ≡ false
-range_broken l i h n = false_of _ (λ a. n (at_all in_range l i a h))
+pub first_few : (ss : List ℕ) (k : ℕ) → sum ss ≤ 16 → product (take k ss) ≤ 324
+first_few ss k h = product-few (take k ss) (omega (arith, sum_take k ss))

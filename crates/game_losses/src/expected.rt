@@ -4,18 +4,14 @@ ghost use Rattle.std.proofs.Math.Seq.{paste};
 ghost use Rattle.game_losses.specs.Game.{dot as dot_of};
 ghost use Rattle.game_losses.specs.AtPoint.{LossesFit};
 
-use crate::long;
-
 // The sum of the mix's numbers times the values, entry by entry.
 fn dot(mix: &[u16], values: &[u32]) -> u32
     requires { (length mix.now ≤ length values.now) × (dot_of mix.now values.now < 4294967296) }
     ensures { result ≡ dot_of mix.now values.now }
 {
     let mut total: u32 = 0;
-    let mut i: usize = 0;
-    while i < mix.len() {
-        total += long(mix[i]) * values[i];
-        i += 1;
+    for (i, number) in mix.iter().enumerate() {
+        total += u32::from(*number) * values[i];
     }
     total
 }
@@ -40,11 +36,8 @@ pub fn put_losses(
         replaced.new ≡ paste replaced.old first instead n }
 {
     let loss = dot(mix, values);
-    let mut k: usize = 0;
-    while k < mix.len() {
-        let instead = long(division) * values[k];
+    for k in 0..mix.len() {
         expected[first + k] = loss;
-        replaced[first + k] = instead;
-        k += 1;
+        replaced[first + k] = u32::from(division) * values[k];
     }
 }

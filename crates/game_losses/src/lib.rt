@@ -7,19 +7,10 @@ ghost use Rattle.combinatorics.specs.Lists.{all, sum};
 ghost use Rattle.game_losses.specs.Game.{product};
 ghost use Rattle.game_losses.specs.Table.{in_range};
 
-use grid::wide;
-
 mod expected;
 mod point;
 
 pub use point::weigh_point;
-
-// A number of a mix, a division or a loss in 32 bits, with nothing to show at the cast.
-pub fn long(x: u16) -> u32
-    ensures { result ≡ x }
-{
-    x as u32
-}
 
 // How many profiles of strategies there are: the product of sizes that add up to at most 16.
 pub fn num_profiles(sizes: &[u8]) -> usize
@@ -27,10 +18,8 @@ pub fn num_profiles(sizes: &[u8]) -> usize
     ensures { result ≡ product sizes.now }
 {
     let mut count: usize = 1;
-    let mut j = sizes.len();
-    while 0 < j {
-        j -= 1;
-        count = wide(sizes[j]) * count;
+    for size in sizes {
+        count *= usize::from(*size);
     }
     count
 }
@@ -39,16 +28,5 @@ pub fn num_profiles(sizes: &[u8]) -> usize
 pub fn in_range(losses: &[u16]) -> bool
     ensures { result ≡ all in_range losses.now }
 {
-    let mut i: usize = 0;
-    while i < losses.len() {
-        let loss = losses[i];
-        if loss < 1 {
-            return false;
-        }
-        if 1000 < loss {
-            return false;
-        }
-        i += 1;
-    }
-    true
+    losses.iter().all(|loss| 1 <= *loss && *loss <= 1000)
 }

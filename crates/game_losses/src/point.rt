@@ -7,7 +7,6 @@ ghost use Rattle.game_losses.specs.Game.{player_loss, replaced_loss};
 ghost use Rattle.game_losses.specs.AtPoint.{GameAtPoint, HasRoomAtIndices, StrategiesStand, with_block};
 
 use crate::expected;
-use grid::wide;
 
 // At the player's indices stand the expected loss, and the loss if each strategy replaces the mix.
 fn weigh_player(
@@ -33,8 +32,8 @@ fn weigh_player(
         → replaced.new
         ≡ with_block g player (replaced_loss g losses point.now) replaced.old }
 {
-    let first = wide(firsts[player]);
-    let end = first + wide(sizes[player]);
+    let first = usize::from(firsts[player]);
+    let end = first + usize::from(sizes[player]);
     expected::put_losses(
         &point[first..end],
         &values[first..end],
@@ -67,11 +66,9 @@ pub fn weigh_point(
         → replaced.new
         ≡ front (map (replaced_loss g losses point.now) (indices g)) replaced.old }
 {
-    let mut player: usize = 0;
-    while player < sizes.len() {
+    for player in 0..sizes.len() {
         weigh_player(
             sizes, divisions, firsts, point, values, player, expected, replaced,
         );
-        player += 1;
     }
 }

@@ -5,19 +5,14 @@ ghost use Rattle.grid_points.specs.Grid.{lent, num_indices};
 ghost use Rattle.game_losses.specs.Game.{difference as difference_of, dot as dot_of};
 ghost use Rattle.game_point.specs.Label.{GameAt, OwnLosses};
 
-use crate::weighing::long64;
-use grid::wide;
-
-// The sum of the mix's numbers times the values, entry by entry.
+// The sum of the mix's numbers times the values, entry by entry, in 64 bits.
 fn dot(mix: &[u16], values: &[u64]) -> u64
     requires { (length mix.now ≤ length values.now) × (dot_of mix.now values.now ≤ 9000000000000000000) }
     ensures { result ≡ dot_of mix.now values.now }
 {
     let mut total: u64 = 0;
-    let mut i: usize = 0;
-    while i < mix.len() {
-        total += long64(mix[i]) * values[i];
-        i += 1;
+    for (i, number) in mix.iter().enumerate() {
+        total += u64::from(*number) * values[i];
     }
     total
 }
@@ -48,11 +43,11 @@ fn difference(
         → OwnLosses g losses point.now values.now
         → result ≡ difference_of g losses point.now h }
 {
-    let owner = wide(owners[h]);
-    let first = wide(firsts[owner]);
-    let end = first + wide(sizes[owner]);
+    let owner = usize::from(owners[h]);
+    let first = usize::from(firsts[owner]);
+    let end = first + usize::from(sizes[owner]);
     let expected = dot(&point[first..end], &values[first..end]);
-    let replaced = long64(divisions[owner]) * values[h];
+    let replaced = u64::from(divisions[owner]) * values[h];
     signed_difference(expected, replaced)
 }
 
@@ -73,11 +68,8 @@ pub fn differences(
         → (h : ℕ) → h < num_indices g → signed_at result h ≡ difference_of g losses point.now h }
 {
     let mut differences = [0i64; 16];
-    let mut h: usize = 0;
-    while h < point.len() {
-        let d = difference(sizes, divisions, firsts, owners, point, values, h);
-        differences[h] = d;
-        h += 1;
+    for h in 0..point.len() {
+        differences[h] = difference(sizes, divisions, firsts, owners, point, values, h);
     }
     differences
 }

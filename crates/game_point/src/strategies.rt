@@ -7,7 +7,6 @@ ghost use Rattle.game_point.specs.Label.{GameAt, own_loss, OwnLosses};
 
 use crate::weighing::weigh;
 use game_losses::num_profiles;
-use grid::wide;
 
 // The loss of index h's strategy, of count losses for each player.
 fn strategy_loss(
@@ -25,9 +24,9 @@ fn strategy_loss(
     requires count_value { (count ≡ product sizes.now) × (h < num_indices (lent sizes.now [])) }
     ensures { result ≡ own_loss (lent sizes.now []) losses.now point.now h }
 {
-    let owner = wide(owners[h]);
+    let owner = usize::from(owners[h]);
     let rest = rests[owner];
-    let at = owner * count + (h - wide(firsts[owner])) * rest;
+    let at = owner * count + (h - usize::from(firsts[owner])) * rest;
     weigh(
         sizes,
         firsts,
@@ -53,11 +52,8 @@ pub fn strategy_losses(
 {
     let count = num_profiles(sizes);
     let mut values = [0u64; 16];
-    let mut h: usize = 0;
-    while h < point.len() {
-        let value = strategy_loss(sizes, firsts, owners, rests, losses, point, count, h);
-        values[h] = value;
-        h += 1;
+    for h in 0..point.len() {
+        values[h] = strategy_loss(sizes, firsts, owners, rests, losses, point, count, h);
     }
     values
 }

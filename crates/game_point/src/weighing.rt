@@ -5,15 +5,6 @@ ghost use Rattle.game_losses.specs.Game.{dot as dot_of};
 ghost use Rattle.game_weighed.specs.Levels.{Rests, behind};
 ghost use Rattle.game_point.specs.Weighing.{weights_from, CanWeighLosses};
 
-use grid::wide;
-
-// A number of a mix, a division or a loss in 64 bits, with nothing to show at the cast.
-pub fn long64(x: u16) -> u64
-    ensures { result ≡ x }
-{
-    x as u64
-}
-
 // How many profiles the player's opponents have behind a block: 1 behind the last of six, for which the array has none.
 fn rest_behind(rests: &[usize; 36], player: usize, block: usize) -> usize
     requires { (player < 6) × (block < 6) }
@@ -40,17 +31,16 @@ pub fn weigh(
         losses.now }
 {
     if block == sizes.len() {
-        return long64(losses[0]);
+        return u64::from(losses[0]);
     }
     if block == player {
         return weigh(sizes, firsts, rests, point, losses, player, block + 1);
     }
-    let first = wide(firsts[block]);
-    let size = wide(sizes[block]);
+    let first = usize::from(firsts[block]);
+    let size = usize::from(sizes[block]);
     let rest = rest_behind(rests, player, block);
     let mut total: u64 = 0;
-    let mut k: usize = 0;
-    while k < size {
+    for k in 0..size {
         let at = k * rest;
         let value = weigh(
             sizes,
@@ -61,8 +51,7 @@ pub fn weigh(
             player,
             block + 1,
         );
-        total += long64(point[first + k]) * value;
-        k += 1;
+        total += u64::from(point[first + k]) * value;
     }
     total
 }

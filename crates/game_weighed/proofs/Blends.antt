@@ -3,10 +3,8 @@
 use mathlib.Core.List.{List, [], ◌∷◌, ◌++◌, map}
 use mathlib.Core.Path.{◌≡◌, refl, sym, ap, ◌∙◌}
 use Prim.Native.Nat.{ℕ, suc, ◌+◌, ◌*◌, ◌≤◌, ◌<◌}
-use lib.ListN.{length, drop, length-map, drop_of_length-le}
-use lib.Seq.{drop-cons}
+use lib.ListN.{length, drop, length-map}
 use native.Mathlib.Nat.{mul-le-mul_left, mul_assoc}
-use native.Mathlib.Numerals.{add-one}
 use native.Mathlib.Omega.{arith}
 use Rattle.combinatorics.specs.Lists.{sum}
 use Rattle.grid_points.specs.Grid.{at}
@@ -101,7 +99,7 @@ blend-behind (a ∷ xs) x f =
 pub blend_one : (f : ℕ → ℕ) → blend (1 ∷ []) f ≡ f 0
 blend_one f = omega arith
 
--- numbers that stand step apart: the first two, and one more a turn
+-- numbers that stand step apart: the first two
 module _ (mix values : List ℕ) (step : ℕ) where
   pub apart-first : 2 ≤ length mix
       → blend mix (λ k. at values (k * step))
@@ -120,20 +118,3 @@ module _ (mix values : List ℕ) (step : ℕ) where
           blend-agree z _ _ (λ k l. let e : suc (suc k) ≡ 2 + k = omega arith in ap (λ (n : ℕ). at values (n * step)) e)
           in
           rw (a, b, later) (omega arith)
-
-  pub apart_next : (k : ℕ) → k < length mix
-      → blend (drop k mix) (λ i. at values ((k + i) * step))
-      ≡ at mix k * at values (k * step) + blend (drop (k + 1) mix) (λ i. at values ((k + 1 + i) * step))
-  apart_next k h =
-      let a : k + 0 ≡ k = omega arith in
-      let later : blend (drop (suc k) mix) (λ i. at values ((k + suc i) * step))
-      ≡ blend (drop (suc k) mix) (λ i. at values ((k + 1 + i) * step)) =
-      blend-agree (drop (suc k) mix) _ _
-      (λ i l. let e : k + suc i ≡ k + 1 + i = omega arith in ap (λ (n : ℕ). at values (n * step)) e) in
-      ap (λ (l : List ℕ). blend l (λ i. at values ((k + i) * step))) (drop-cons mix k 0 h)
-      ∙ rw (a, later) (ap
-      (λ (n : ℕ). at mix k * at values (k * step) + blend (drop n mix) (λ i. at values ((k + 1 + i) * step)))
-      (sym (add-one k)))
-
-  pub apart-done : (k : ℕ) → length mix ≤ k → blend (drop k mix) (λ i. at values ((k + i) * step)) ≡ 0
-  apart-done k h = rw (drop_of_length-le mix h)

@@ -9,12 +9,12 @@ use borrow.Author.Tests.{eq-eqb, ne_eqb, leb-true}
 use lib.Dec.{eqb, leb}
 use lib.ListN.{length, get_or, take, drop, drop_of_length-le, get_or-eq_default}
 use lib.Seq.{drop-cons, get_or-take, get_or-drop}
-use native.Mathlib.Nat.{mul-le-mul, mul-le-mul_right}
+use native.Mathlib.Nat.{mul-le-mul, mul-le-mul_left, mul-le-mul_right}
 use native.Mathlib.Numerals.{add-one}
 use native.Mathlib.Omega.{arith}
 use Rattle.combinatorics.proofs.Agreement.{map_range, all_drop}
 use Rattle.combinatorics.proofs.Basics.{true_or_false, and_right, before_or_not}
-use Rattle.combinatorics.proofs.Lists.{at_all, eqb_self, sums_rise}
+use Rattle.combinatorics.proofs.Lists.{at_all, sums_rise}
 use Rattle.combinatorics.proofs.Turns.{map-append, up_from-next}
 use Rattle.combinatorics.specs.Lists.{all, filter, sum, up_from}
 use Rattle.grid_points.proofs.Accepted.{Accepted, size-two}
@@ -43,9 +43,6 @@ mix-kept g y z l e i h = map_range _ _ (first_index g i) (size g i) (λ t m.
     ∙ get_or-take (first_index g l) z (first_index g i + t) 0 low)
 
 module _ (g : Grid) (j : ℕ) where
-  pub against_own : size_against g j j ≡ 1
-  against_own = rw (eqb_self j)
-
   pub against_other : (i : ℕ) → (i ≡ j → ⊥) → size_against g j i ≡ size g i
   against_other i n = rw (ne_eqb i j n)
 
@@ -106,17 +103,12 @@ module _ (g : Grid) (j : ℕ) where
       before : behind g j l ≤ 162 → l < num_blocks g → behind g j (suc l) ≤ 162
       before few b = omega (arith, behind-next l b, mul-le-mul_right (behind g j (suc l)) (some b))
 
-  -- one block more, from the last on
-  pub behind_turn : (l : ℕ) → 0 < l → l ≤ num_blocks g → (l - 1 ≡ j → ⊥)
-      → size g (l - 1) * behind g j l ≡ behind g j (l - 1)
-  behind_turn l p h n =
-      let z : suc (l - 1) ≡ l = omega arith in
-      sym (behind-next (l - 1) (omega arith) ∙ rw (z, ne_eqb (l - 1) j n))
+  -- one block more, from the first on
+  pub behind_turn : (l : ℕ) → l < num_blocks g → (l ≡ j → ⊥) → behind g j l ≡ size g l * behind g j (l + 1)
+  behind_turn l h n = rw (add-one, ← against_other l n) (behind-next l h)
 
-  pub behind_skip : (l : ℕ) → 0 < l → l ≤ num_blocks g → l - 1 ≡ j → behind g j l ≡ behind g j (l - 1)
-  behind_skip l p h e =
-      let z : suc (l - 1) ≡ l = omega arith in
-      sym (behind-next (l - 1) (omega arith) ∙ rw (z, eq-eqb (l - 1) j e) (omega arith))
+  pub behind_skip : (l : ℕ) → l < num_blocks g → l ≡ j → behind g j l ≡ behind g j (l + 1)
+  behind_skip l h e = behind-next l h ∙ rw (add-one, eq-eqb l j e) (omega arith)
 
   -- and for players that are none: at most the product of the sizes
   behind-product : all (λ s. leb 2 s) g.sizes ≡ true → (l n : ℕ) → l + n ≡ num_blocks g
@@ -137,6 +129,32 @@ module _ (g : Grid) (j : ℕ) where
       omega (arith, behind-product two l (num_blocks g - l) (omega arith), part_few g.sizes l few))
       (λ (b : num_blocks g ≤ l). let z : num_blocks g - l ≡ 0 = omega arith in rw z (omega arith))
       (before_or_not l (num_blocks g))
+
+  some-behind : all (λ s. leb 2 s) g.sizes ≡ true → (l n : ℕ) → l + n ≡ num_blocks g
+      → 1 ≤ product (map (size_against g j) (up_from l n))
+  some-behind two l zero e = omega arith
+  some-behind two l (suc n) e =
+      let own : 1 ≤ size_against g j l = ⊎_elim
+      (λ s. rw s (omega arith))
+      (λ s. rw s (omega (arith, leb-true 2 (size g l) (at_all (λ s. leb 2 s) g.sizes l two (omega arith)))))
+      (true_or_false (eqb l j)) in
+      let later : 1 ≤ product (map (size_against g j) (up_from (suc l) n)) = some-behind two (suc l) n (omega arith) in
+      omega (arith, mul-le-mul {n₁ = 1} own later)
+
+  pub behind-some : all (λ s. leb 2 s) g.sizes ≡ true → (l : ℕ) → 1 ≤ behind g j l
+  unfolding behind
+  behind-some two l = ⊎_elim
+      (λ (b : l < num_blocks g). some-behind two l (num_blocks g - l) (omega arith))
+      (λ (b : num_blocks g ≤ l). let z : num_blocks g - l ≡ 0 = omega arith in rw z (omega arith))
+      (before_or_not l (num_blocks g))
+
+  -- what is counted from block f on, before what is left is counted
+  pub counted-low : all (λ s. leb 2 s) g.sizes ≡ true → sum g.sizes ≤ 16 → (f count l : ℕ) → l < num_blocks g
+      → (l ≡ j → ⊥) → count * behind g j l ≡ behind g j f
+      → count * size g l ≤ 324
+  counted-low two few f count l h n e =
+      let whole = rw (behind_turn l h n) at e in
+      omega (arith, behind-low two few f, mul-le-mul_left (count * size g l) (behind-some two (l + 1)))
 
   pub mix_against-length : (y : Point) (i : ℕ) → length (mix_against g y j i) ≡ size_against g j i
   mix_against-length y i = ⊎_elim (λ e. rw e) (λ e. rw e (block-length g y i)) (true_or_false (eqb i j))

@@ -1,7 +1,7 @@
 -- The tables of the next level in the array: one index after the other, and one level after the other. Assumes nothing.
 use mathlib.Core.List.{List}
 use mathlib.Core.Logic.{⊎_elim}
-use mathlib.Core.Path.{◌≡◌, refl, sym, ap, ◌∙◌}
+use mathlib.Core.Path.{◌≡◌, sym, ap, ◌∙◌}
 use Prim.Native.Nat.{ℕ, suc, ◌+◌, ◌*◌, ◌≤◌, ◌<◌}
 use borrow.Author.Tests.{eq-eqb, ne_eqb}
 use lib.ListN.{length}
@@ -19,15 +19,6 @@ use Rattle.game_weighed.proofs.Levels.{against_other, behind-next, behind-few, l
 use Rattle.game_weighed.proofs.Levels.{levelled-low}
 use Rattle.game_weighed.specs.Levels.{behind, levelled, place, Stand, StandTo, next_at, rest_at, Written}
 use Rattle.game_weighed.specs.Levels.{IndexToWeigh, LevelToWeigh, LevelWeighed, LevelsAt}
-
--- what is written, under other names
-pub written_as : (old new : List ℕ) (to place n : ℕ) (f e : ℕ → ℕ) → to ≡ place → ((i : ℕ) → i < n → f i ≡ e i)
-    → Written old to n f new
-    → Written old place n e new
-written_as old new to place n f e s a w = record {
-  done = λ i h. rw (← s) (w.done i h ∙ a i h);
-  kept = λ i h. w.kept i (rw s h);
-}
 
 -- the array changes only behind the level
 module _ (owner : ℕ) (mix old : List ℕ) (l h rest : ℕ) (x : IndexToWeigh owner mix old l h rest) (new : List ℕ)
@@ -56,9 +47,6 @@ module _ (owner : ℕ) (mix old : List ℕ) (l h rest : ℕ) (x : IndexToWeigh o
 
 -- one index more
 module _ (owners rests mix old : List ℕ) (l n : ℕ) (x : LevelToWeigh owners rests mix l n old) where
-  pub level_start_lem : LevelWeighed owners rests mix l 0 old old
-  level_start_lem = record { done = λ h e b. absurd (omega arith); kept = λ i b. refl }
-
   pub level_turn : (h : ℕ) → h < n → (levels new : List ℕ) → LevelWeighed owners rests mix l h old levels
       → Written levels (place (l + 1) h) (rest_at owners rests l h)
       (next_at (at owners h) mix levels l h (rest_at owners rests l h)) new

@@ -1,7 +1,7 @@
 -- What is written into an array, one number after the other. Assumes nothing.
 use mathlib.Core.List.{List}
 use mathlib.Core.Logic.{⊎_elim}
-use mathlib.Core.Path.{◌≡◌, refl, sym, ap, ◌∙◌}
+use mathlib.Core.Path.{◌≡◌, sym, ap, ◌∙◌}
 use Prim.Native.Nat.{ℕ, suc, ◌+◌, ◌-◌, ◌*◌, ◌≤◌, ◌<◌}
 use lib.ListN.{length, get_or, take, drop, set, length-take, length-drop}
 use lib.Seq.{get_or-set_same, get_or-set_other, get_or-drop, take_all}
@@ -19,9 +19,6 @@ use Rattle.game_weighed.proofs.Blends.{blend-agree}
 use Rattle.game_weighed.proofs.Levels.{own_behind, behind-few, begin_is, levelled-start}
 use Rattle.game_weighed.specs.Levels.{blend, behind, losses_begin, levelled, place, weighed_at, Stand, Spaced}
 use Rattle.game_weighed.specs.Levels.{TableToWeigh, Written}
-
-pub written_start : (old : List ℕ) (to : ℕ) (f : ℕ → ℕ) → Written old to 0 f old
-written_start old to f = record { done = λ e h. absurd (omega arith); kept = λ i h. refl }
 
 pub written_turn : (old new : List ℕ) (to e : ℕ) (f : ℕ → ℕ) (v : ℕ) → to + e < length new → v ≡ f e
     → Written old to e f new

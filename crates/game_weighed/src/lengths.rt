@@ -4,7 +4,7 @@ ghost use Rattle.combinatorics.specs.Lists.{all, sum};
 ghost use Rattle.grid_points.specs.Grid.{lent};
 ghost use Rattle.game_weighed.specs.Levels.{behind, Rests};
 
-use grid::wide;
+use std::array;
 
 // How many profiles the player's opponents have from the block first on.
 fn profiles_behind(sizes: &[u8], player: usize, first: usize) -> usize
@@ -12,11 +12,9 @@ fn profiles_behind(sizes: &[u8], player: usize, first: usize) -> usize
     ensures { result ≡ behind (lent sizes.now []) player first }
 {
     let mut count: usize = 1;
-    let mut j = sizes.len();
-    while first < j {
-        j -= 1;
+    for j in first..sizes.len() {
         if j != player {
-            count = wide(sizes[j]) * count;
+            count *= usize::from(sizes[j]);
         }
     }
     count
@@ -27,12 +25,5 @@ pub fn rests(sizes: &[u8]) -> [usize; 36]
     requires { (all (λ s. leb 2 s) sizes.now ≡ true) × (sum sizes.now ≤ 16) }
     ensures { Rests (lent sizes.now []) result }
 {
-    let mut rests = [0usize; 36];
-    let mut i: usize = 0;
-    while i < 36 {
-        let rest = profiles_behind(sizes, i % 6, i / 6);
-        rests[i] = rest;
-        i += 1;
-    }
-    rests
+    array::from_fn(|i| profiles_behind(sizes, i % 6, i / 6))
 }

@@ -4,19 +4,14 @@ ghost use Rattle.combinatorics.specs.Lists.{sum};
 ghost use Rattle.grid_points.specs.Grid.{Point, at, lent};
 ghost use Rattle.game_weighed.specs.Levels.{StandTo, TableToLoad, Written};
 
-use game_losses::long;
-use grid::wide;
-
 // The losses stand from place to on.
 fn load_table(levels: &mut [u32], to: usize, losses: &[u16])
     requires { to + length losses.now ≤ length levels.old }
     ensures { let own = losses.now in
         Written levels.old to (length own) (at own) levels.new }
 {
-    let mut e: usize = 0;
-    while e < losses.len() {
-        levels[to + e] = long(losses[e]);
-        e += 1;
+    for (e, loss) in losses.iter().enumerate() {
+        levels[to + e] = u32::from(*loss);
     }
 }
 
@@ -38,12 +33,10 @@ pub fn load_losses(
     ensures { (y : Point)
         → StandTo (lent sizes.now []) losses.now y 0 levels.new }
 {
-    let mut h: usize = 0;
-    while h < indices {
-        let owner = wide(owners[h]);
+    for h in 0..indices {
+        let owner = usize::from(owners[h]);
         let rest = rests[owner];
-        let at = owner * count + (h - wide(firsts[owner])) * rest;
+        let at = owner * count + (h - usize::from(firsts[owner])) * rest;
         load_table(levels, h * 162, &losses[at..at + rest]);
-        h += 1;
     }
 }

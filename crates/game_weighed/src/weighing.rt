@@ -5,7 +5,6 @@ ghost use Rattle.game_weighed.specs.Levels.{place, next_at, IndexToWeigh, LevelT
 ghost use Rattle.game_weighed.specs.Levels.{LevelsAt, StandTo, Written};
 
 use crate::tables;
-use grid::wide;
 
 // The table of index h on the next level: weighed by the mix of the level's block, unless that is the index's own.
 fn weigh_index(owner: usize, mix: &[u16], levels: &mut [u32], level: usize, h: usize, rest: usize)
@@ -36,12 +35,10 @@ fn weigh_level(
     ensures { LevelWeighed owners.now rests.now mix.now level indices
         levels.old levels.new }
 {
-    let mut h: usize = 0;
-    while h < indices {
-        let owner = wide(owners[h]);
+    for h in 0..indices {
+        let owner = usize::from(owners[h]);
         let rest = rests[(level + 1) * 6 + owner];
         weigh_index(owner, mix, levels, level, h, rest);
-        h += 1;
     }
 }
 
@@ -68,11 +65,9 @@ pub fn weigh_levels(
 {
     let indices = point.len();
     let last = sizes.len() - 1;
-    let mut level = first;
-    while level < last {
-        let from = wide(firsts[level]);
-        let end = from + wide(sizes[level]);
+    for level in first..last {
+        let from = usize::from(firsts[level]);
+        let end = from + usize::from(sizes[level]);
         weigh_level(owners, rests, &point[from..end], level, indices, levels);
-        level += 1;
     }
 }

@@ -3,27 +3,15 @@ use native.Mathlib.Omega.{arith}
 use mathlib.Core.Path.{sym, ◌∙◌}
 use lib.Seq.{length-take-le}
 use Rattle.combinatorics.proofs.Fronts.{front_full}
-use Rattle.grid.proofs.Fields.{made-indices, made-points, made-block}
+use Rattle.grid.proofs.Fields.{blocks-range, made-indices, made-points, made-block}
 use Rattle.grid.specs.Made.{shape}
 use Rattle.game_losses.specs.Game.{labels}
 use Rattle.game_labels.proofs.AllLabels.{labels_length}
 use Rattle.game_labels.proofs.Outcomes.{made-firsts, blocks-room}
 use Rattle.game_labels.proofs.label_on.Goals as goal
 
-pub slice_bounds-sizes-end : goal.slice_bounds-sizes-end
-slice_bounds-sizes-end c = (blocks-room c.args.grid
-    c.requires.0).0
-
-pub slice_bounds-write_labels-end : goal.slice_bounds-write_labels-end
-slice_bounds-write_labels-end c = sym (length-take-le _ _ (blocks-room c.args.grid c.requires.0).0)
-
-pub slice_bounds-divisions-end : goal.slice_bounds-divisions-end
-slice_bounds-divisions-end c = (blocks-room
-    c.args.grid
-    c.requires.0).1
-
-pub slice_bounds-write_labels-end-2 : goal.slice_bounds-write_labels-end-2
-slice_bounds-write_labels-end-2 c = sym (length-take-le _ _ (blocks-room c.args.grid c.requires.0).1)
+pub shared_ref_as_front-sizes : goal.shared_ref_as_front-sizes
+shared_ref_as_front-sizes c = (blocks-range c.args.grid c.requires.0).1
 
 pub write_labels-requires : goal.write_labels-requires
 write_labels-requires c =

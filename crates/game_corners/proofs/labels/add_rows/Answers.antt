@@ -1,23 +1,23 @@
 -- `add_rows` meets its contract: the rows passed are weighed and added up. Assumes nothing.
 use mathlib.Core.List.{List}
-use mathlib.Core.Path.{◌≡◌, sym, ap, ◌∙◌}
+use mathlib.Core.Path.{◌≡◌, sym, ◌∙◌}
 use Prim.Native.Nat.{ℕ, ◌+◌, ◌-◌, ◌*◌, ◌≤◌, ◌<◌}
 use native.Mathlib.Omega.{arith}
 use borrow.Author.Rules.{rules}
 use lib.IntN.{ℤ, pos, nat_abs}
-use lib.ListN.{length, get_or, take, drop, length-take, length-drop, get_or-replicate}
+use lib.ListN.{length, get_or, take, drop, length-take, length-drop}
 use lib.Seq.{take_all, get_or-drop}
-use mir.Facts.{to_z_pos}
+use mir.Facts.{to_z-of_z}
 use mir.Syntax.{w64}
-use mir.Val.{to_z}
+use mir.Val.{to_z, of_z, SFits}
 use Rattle.game_corners.proofs.Integers.{weighed-low}
 use Rattle.game_corners.proofs.Rows.{column-next, total-low}
-use Rattle.game_corners.specs.Corners.{signed_at, column}
+use Rattle.game_corners.specs.Corners.{signed_at}
 use Rattle.game_corners.proofs.labels.add_rows.Goals as goal
-use Rattle.game_corners.proofs.labels.add_rows.Goals.{In-loop-k}
+use Rattle.game_corners.proofs.labels.add_rows.Goals.{After-from}
 
 -- what is known once the mix's number is read
-module _ (c : In-loop-k) where
+module _ (c : After-from) where
   abbrev rows : List ℤ
   rows = c.args.rows.now
 
@@ -33,8 +33,13 @@ module _ (c : In-loop-k) where
   x-low : x < 65536
   x-low = search rules
 
-  x-is : to_z w64 x ≡ pos x
-  x-is = to_z_pos w64 {n = x} (omega (arith, x-low))
+  abbrev factor : ℤ
+  factor = to_z w64 (of_z w64 c.from.result)
+
+  x-is : factor ≡ pos x
+  x-is =
+      let fits : SFits w64 c.from.result = search rules in
+      to_z-of_z {w = w64} fits ∙ c.from.ensures
 
   -- the part that is lent for the row
   abbrev row : List ℤ
@@ -45,52 +50,31 @@ module _ (c : In-loop-k) where
       (get_or-drop (k * 16) rows h (pos 0))
 
   low : (h : ℕ) → h < c.args.count
-      → nat_abs (signed_at totals h) + nat_abs (to_z w64 x) * nat_abs (signed_at row h) ≤ (k + 1) * 281474976710656
+      → nat_abs (signed_at totals h) + nat_abs factor * nat_abs (signed_at row h) ≤ (k + 1) * 281474976710656
   low h b = rw (number h, x-is)
       (total-low (nat_abs (signed_at totals h)) x (nat_abs (signed_at rows (k * 16 + h))) k
       (c.loop-k.invariant.0 h b).1 x-low (c.requires.1.low k h (omega arith) b))
-
-pub loop-k-init : goal.loop-k-init
-loop-k-init c =
-    let p = c.requires in (
-      (λ h b.
-          let e : signed_at c.args.totals.now h ≡ pos 0 =
-          rw p.0 (get_or-replicate 16 h (pos 0) (pos 0) (omega (arith, p.1.few))) in
-          (e, rw e (omega arith))),
-      omega arith,
-      ap length p.0,
-    )
-
-pub overflow_cast-mix : goal.overflow_cast-mix
-overflow_cast-mix c = record { sfits = omega (arith, x-low (goal.at.overflow_cast-mix c).In-loop-k) }
 
 pub add_times-requires : goal.add_times-requires
 add_times-requires c =
     let p = c.requires.1 in
     record {
-      sixteen = c.loop-k.invariant.2;
+      sixteen = c.loop-k.invariant.1;
       few = p.few;
       inside = simp (length-take, length-drop) (omega (arith, p.few_rows, p.few, p.whole));
-      fits = λ h b. omega (arith, low (goal.at.add_times-requires c).In-loop-k h b, p.few_rows);
+      fits = λ h b. omega (arith, low (goal.at.add_times-requires c).After-from h b, p.few_rows);
     }
 
 pub loop-k-preserved : goal.loop-k-preserved
 loop-k-preserved c =
-    let w = (goal.at.loop-k-preserved c).In-loop-k in
+    let w = (goal.at.loop-k-preserved c).After-from in
     let l = c.loop-k in
     let e = c.add_times.ensures.1 in (
       (λ h b. (
         e h b
             ∙ rw (number w h, x-is w, (l.invariant.0 h b).0)
             (sym (column-next c.args.mix.now (rows w) (k w) h (omega arith))),
-        rw (e h b) (omega (arith, low w h b, weighed-low (signed_at (totals w) h) (to_z w64 (x w)) (signed_at (row w) h))),
+        rw (e h b) (omega (arith, low w h b, weighed-low (signed_at (totals w) h) (factor w) (signed_at (row w) h))),
       )),
-      omega arith,
       c.add_times.ensures.0,
     )
-
-pub returns : goal.returns
-returns c =
-    let l = c.loop-k in
-    let e : take l.k c.args.mix.now ≡ c.args.mix.now = take_all l.k c.args.mix.now (omega arith) in
-    λ h b. (l.invariant.0 h b).0 ∙ ap (λ (z : List ℕ). column z c.args.rows.now h) e

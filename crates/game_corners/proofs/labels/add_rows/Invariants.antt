@@ -1,6 +1,6 @@
 -- `add_rows` meets its contract: the rows passed are weighed and added up. Assumes nothing.
 use mathlib.Core.Path.{◌≡◌}
-use Prim.Native.Nat.{ℕ, ◌-◌, ◌*◌, ◌≤◌, ◌<◌}
+use Prim.Native.Nat.{ℕ, ◌*◌, ◌≤◌, ◌<◌}
 use lib.IntN.{nat_abs}
 use lib.ListN.{length, take}
 use Rattle.game_corners.specs.Corners.{signed_at, column}
@@ -10,7 +10,4 @@ abbrev pub invariant-loop-k : goal.invariant-loop-k
 invariant-loop-k l =
     ((h : ℕ) → h < l.count
     → (signed_at l.totals h ≡ column (take l.k l.mix) l.rows h) × (nat_abs (signed_at l.totals h) ≤ l.k * 281474976710656))
-    × (l.k ≤ length l.mix) × (length l.totals ≡ 16)
-
-abbrev pub decreases-loop-k : goal.decreases-loop-k
-decreases-loop-k l = length l.mix - l.k
+    × (length l.totals ≡ 16)

@@ -8,7 +8,7 @@ use mir.Syntax.{w64}
 use mir.Val.{SFits}
 use borrow.Author.Rules.{rules}
 use Rattle.game_corners.proofs.Integers.{mag_low, product_abs, weighed-low}
-use Rattle.game_corners.proofs.Rows.{added_start, added_turn}
+use Rattle.game_corners.proofs.Rows.{added_turn}
 use Rattle.game_corners.specs.Corners.{signed_at}
 use Rattle.game_corners.proofs.labels.add_times.Goals as goal
 use Rattle.game_corners.proofs.labels.add_times.Goals.{In-loop-h}
@@ -33,24 +33,6 @@ sum_fits c =
     let total = signed_at c.loop-h.totals c.loop-h.h in
     record { sfits = omega (arith, mag_low (total +ℤ x *ℤ number), weighed-low total x number, low c) }
 
-pub loop-h-init : goal.loop-h-init
-loop-h-init c = (added_start c.args.totals.now c.args.row.now _, omega arith, c.requires.sixteen)
-
-pub overflow_mul-total : goal.overflow_mul-total
-overflow_mul-total c =
-    let f = product-fits (goal.at.overflow_mul-total c).In-loop-h in
-    let x : SFits w64 c.args.x = c.ranges.x in
-    let n : SFits w64 (signed_at c.args.row.now c.loop-h.h) = search rules in
-    simp to_z-of_z f
-
-pub overflow_add-total : goal.overflow_add-total
-overflow_add-total c =
-    let p = product-fits (goal.at.overflow_add-total c).In-loop-h in
-    let x : SFits w64 c.args.x = c.ranges.x in
-    let n : SFits w64 (signed_at c.args.row.now c.loop-h.h) = search rules in
-    let t : SFits w64 (signed_at c.loop-h.totals c.loop-h.h) = search rules in
-    simp to_z-of_z (sum_fits (goal.at.overflow_add-total c).In-loop-h)
-
 pub loop-h-preserved : goal.loop-h-preserved
 loop-h-preserved c =
     let l = c.loop-h in
@@ -62,12 +44,11 @@ loop-h-preserved c =
       added_turn c.args.totals.now c.args.row.now _ l.h l.totals _ (omega arith)
           (simp to_z-of_z (rw (l.invariant.0.left l.h (omega arith))))
           l.invariant.0,
-      omega arith,
-      simp length-set l.invariant.2,
+      simp length-set l.invariant.1,
     )
 
 pub returns : goal.returns
 returns c =
     let l = c.loop-h in
     let x : SFits w64 c.args.x = c.ranges.x in
-    (l.invariant.2, λ h b. simp to_z-of_z at (l.invariant.0.done h (omega arith)))
+    (l.invariant.1, λ h b. simp to_z-of_z at (l.invariant.0.done h (omega arith)))

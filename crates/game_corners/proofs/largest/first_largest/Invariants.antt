@@ -1,12 +1,8 @@
 -- `first_largest` meets its contract: the best index leads those passed. Assumes nothing.
-use Prim.Native.Nat.{◌-◌, ◌≤◌}
 use Rattle.game_losses.proofs.FirstLargest.{Leads}
 use Rattle.game_corners.specs.Corners.{signed_at}
 use Rattle.game_corners.proofs.largest.first_largest.Given as goal
 
 abbrev pub invariant-loop-h : goal.invariant-loop-h
 invariant-loop-h l =
-    Leads (signed_at l.differences) l.best l.most l.h × (1 ≤ l.h) × (l.h ≤ l.count)
-
-abbrev pub decreases-loop-h : goal.decreases-loop-h
-decreases-loop-h l = l.count - l.h
+    Leads (signed_at l.differences) l.best (signed_at l.differences l.best) l.h

@@ -1,9 +1,8 @@
 -- `put_differences` meets its contract: the differences before the place reached are written. Assumes nothing.
 use mathlib.Core.List.{List}
 use mathlib.Core.Path.{◌≡◌}
-use Prim.Native.Nat.{ℕ, ◌-◌, ◌≤◌, ◌<◌}
+use Prim.Native.Nat.{ℕ, ◌<◌}
 use lib.IntN.{ℤ, pos, nat_abs, ◌-ℤ◌}
-use lib.ListN.{length}
 use Rattle.grid_points.specs.Grid.{at}
 use Rattle.game_corners.specs.Corners.{signed_at}
 use Rattle.game_corners.proofs.largest.put_differences.Given as goal
@@ -13,8 +12,4 @@ IsDifference expected replaced i z = (z ≡ pos (at expected i) -ℤ pos (at rep
 
 abbrev pub invariant-loop-h : goal.invariant-loop-h
 invariant-loop-h l =
-    ((i : ℕ) → i < l.h → IsDifference l.expected l.replaced i (signed_at l.differences i)) × (l.h ≤ 16)
-    × (length l.differences ≡ 16)
-
-abbrev pub decreases-loop-h : goal.decreases-loop-h
-decreases-loop-h l = 16 - l.h
+    (i : ℕ) → i < l.h → IsDifference l.expected l.replaced i (signed_at l.differences i)

@@ -1,6 +1,6 @@
 -- `pick` meets its contract: the losses of the indices passed are picked. Assumes nothing.
 use mathlib.Core.Path.{◌≡◌}
-use Prim.Native.Nat.{ℕ, ◌-◌, ◌≤◌, ◌<◌}
+use Prim.Native.Nat.{ℕ, ◌<◌}
 use lib.ListN.{length}
 use Rattle.grid_points.specs.Grid.{at}
 use Rattle.game_corners.specs.Corners.{picked_at}
@@ -8,8 +8,5 @@ use Rattle.game_corners.proofs.picking.pick.Given as goal
 
 abbrev pub invariant-loop-h : goal.invariant-loop-h
 invariant-loop-h l =
-    ((i : ℕ) → i < l.h → at l.values i ≡ picked_at l.owners l.levels l.last l.k i) × (l.h ≤ l.indices)
+    ((i : ℕ) → i < l.h → at l.values i ≡ picked_at l.owners l.levels l.last l.k i)
     × (length l.values ≡ 16)
-
-abbrev pub decreases-loop-h : goal.decreases-loop-h
-decreases-loop-h l = l.indices - l.h

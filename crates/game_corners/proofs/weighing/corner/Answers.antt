@@ -1,23 +1,15 @@
 -- `corner` meets its contract: the coordinates before the last player's are copied. Assumes nothing.
-use mathlib.Core.Path.{◌≡◌, sym}
+use mathlib.Core.Path.{◌≡◌}
 use native.Mathlib.Omega.{arith}
-use lib.ListN.{replicate}
-use Rattle.combinatorics.proofs.Fronts.{front-none, front-copy}
+use lib.ListN.{length, take}
+use lib.Seq.{length-take-le}
+use Rattle.combinatorics.specs.Front.{front}
 use Rattle.game_corners.proofs.weighing.corner.Goals as goal
 
-pub loop-i-init : goal.loop-i-init
-loop-i-init c = (sym (front-none (replicate 16 0)), omega arith)
-
-pub loop-i-preserved : goal.loop-i-preserved
-loop-i-preserved c =
-    let l = c.loop-i in (
-      rw l.invariant.0 (front-copy c.args.point.now (replicate 16 0) l.i (omega arith)
-          (omega arith)),
-      omega arith,
-    )
-
 pub returns : goal.returns
+unfolding front
 returns c =
-    let l = c.loop-i in
-    let e : l.i ≡ c.args.first = omega arith in
-    rw (l.invariant.0, e)
+    let a = c.args in
+    let copied : c.copy_from_slice.new.self ≡ take a.first a.point.now = c.copy_from_slice.ensures.after in
+    let long : length (take a.first a.point.now) ≡ a.first = length-take-le a.first a.point.now (omega arith) in
+    rw (copied, long)

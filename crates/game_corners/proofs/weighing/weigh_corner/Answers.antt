@@ -1,6 +1,6 @@
 -- `weigh_corner` meets its contract: the row of the corner is written behind those before it. Assumes nothing.
 use mathlib.Core.List.{List}
-use mathlib.Core.Path.{◌≡◌, refl, sym, ap, ◌∙◌, subst}
+use mathlib.Core.Path.{◌≡◌, sym, ap, ◌∙◌, subst}
 use Prim.Native.Nat.{ℕ, ◌+◌, ◌-◌, ◌*◌, ◌≤◌, ◌<◌}
 use native.Mathlib.Omega.{arith}
 use borrow.Author.Rules.{rules}
@@ -18,7 +18,7 @@ use Rattle.game_corners.proofs.CornerLosses.{cornered_turn}
 use Rattle.game_corners.proofs.Picked.{picked_stand}
 use Rattle.game_corners.specs.Corners.{last_player, corner, CornersToWeigh}
 use Rattle.game_corners.proofs.weighing.weigh_corner.Goals as goal
-use Rattle.game_corners.proofs.weighing.weigh_corner.Goals.{Start, After-wide-first, After-corner-corner, After-pick}
+use Rattle.game_corners.proofs.weighing.weigh_corner.Goals.{Start, After-from-first, After-corner-corner, After-pick}
 
 -- what is known of the game
 module _ (s : Start) where
@@ -39,12 +39,12 @@ module _ (s : Start) where
       (omega (arith, s.requires.1), yes.few_indices, omega (arith, s.requires.1, yes.few_indices))
 
 -- what is known once the first index is read
-module _ (c : After-wide-first) where
+module _ (c : After-from-first) where
   abbrev start : Start
-  start = (goal.at.After-wide-first c).Start
+  start = (goal.at.After-from-first c).Start
 
-  first-is : c.wide-first.result ≡ first_index (g start) (last_player (g start))
-  first-is = c.wide-first.ensures
+  first-is : c.from-first.result ≡ first_index (g start) (last_player (g start))
+  first-is = c.from-first.ensures
       ∙ ((game start).points c.args.k c.requires.1).grid.first (last_player (g start))
       (omega (arith, (yes start).some_block))
 
@@ -59,7 +59,7 @@ module _ (c : After-corner-corner) where
   is_held = c.corner-corner.ensures
       ∙ ap
       (λ (f : ℕ). set (front (take f c.args.point.now) (replicate 16 0)) (f + c.args.k) 1)
-      (first-is (goal.at.After-corner-corner c).After-wide-first)
+      (first-is (goal.at.After-corner-corner c).After-from-first)
 
   long : length c.corner-corner.result ≡ 16
   long = ap length is_held
@@ -92,41 +92,28 @@ module _ (c : After-pick) where
       c.args.owners.now losses c.args.levels.now (game s).owned stand c.pick.new.values
       (λ h b. c.pick.ensures.1 h (omega (arith, (game s).whole))))
 
-pub overflow_sub-last : goal.overflow_sub-last
-overflow_sub-last c = omega (arith, (game (goal.at.overflow_sub-last c).Start).some)
-
 pub bounds-firsts-last : goal.bounds-firsts-last
 bounds-firsts-last c =
     let s = (goal.at.bounds-firsts-last c).Start in
     omega (arith, (yes s).few_blocks, (game s).some)
 
-pub overflow_add-first : goal.overflow_add-first
-overflow_add-first c = omega (arith, first-is c, (ends (start c)).0, (ends (start c)).1)
-
 pub corner-corner-requires : goal.corner-corner-requires
 corner-corner-requires c =
-    let w = (goal.at.corner-corner-requires c).After-wide-first in
+    let w = (goal.at.corner-corner-requires c).After-from-first in
     let e = ends (start w) in (
       omega (arith, first-is w, e.0, (game (start w)).whole),
       omega (arith, first-is w, e.0, e.1),
       omega (arith, first-is w, e.0, e.1),
     )
 
-pub overflow_mul-at : goal.overflow_mul-at
-overflow_mul-at c = omega (arith, (ends (goal.at.overflow_mul-at c).Start).2)
-
-pub pick-requires : goal.pick-requires
-pick-requires c =
-    let s = (goal.at.pick-requires c).Start in
-    let e = ends s in
-    record {
-      last_bound = (
-        omega (arith, (yes s).few_blocks, (game s).some),
-        omega (arith, e.2),
-        omega (arith, (game s).whole, e.1),
-      );
-      levels_len = ((game s).numbers, refl);
-    }
+pub pick-requires-clause-last_bound : goal.pick-requires-clause-last_bound
+pick-requires-clause-last_bound c =
+    let s = (goal.at.pick-requires-clause-last_bound c).Start in
+    let e = ends s in (
+      omega (arith, (yes s).few_blocks, (game s).some),
+      omega (arith, e.2),
+      omega (arith, (game s).whole, e.1),
+    )
 
 pub slice_bounds-corner-end : goal.slice_bounds-corner-end
 slice_bounds-corner-end c =
@@ -160,21 +147,11 @@ weigh_point-requires c =
       record { of_expected = (ends s).1; of_replaced = (ends s).1 },
     )
 
-pub overflow_add-at : goal.overflow_add-at
-overflow_add-at c = omega (arith, (ends (goal.at.overflow_add-at c).Start).2)
-
-pub offset_bounds-differences-at : goal.offset_bounds-differences-at
-offset_bounds-differences-at c =
-    omega (arith, (ends (goal.at.offset_bounds-differences-at c).Start).2)
-
 pub slice_bounds-put_differences-end : goal.slice_bounds-put_differences-end
 slice_bounds-put_differences-end c =
     let e = (ends (goal.at.slice_bounds-put_differences-end c).Start).2 in
     let x = game (goal.at.slice_bounds-put_differences-end c).Start in
     search rules
-
-pub put_differences-requires : goal.put_differences-requires
-put_differences-requires c = search rules
 
 pub returns : goal.returns
 returns c =

@@ -8,7 +8,7 @@ use Prim.Native.Nat.{ℕ, ◌-◌, ◌≤◌, ◌<◌}
 use native.Mathlib.Omega.{arith}
 use borrow.Author.Tests.{ltb-false}
 use lib.Dec.{ltb}
-use lib.ListN.{length, length-set}
+use lib.ListN.{length}
 use Rattle.combinatorics.proofs.Basics.{absurd_bool}
 use Rattle.combinatorics.proofs.Fronts.{front-none, front-whole}
 use Rattle.game_corners.proofs.CornerLabels.{lent_rows, lent-label}
@@ -16,7 +16,7 @@ use Rattle.game_corners.proofs.CornerLosses.{last-ends, cornered_kept}
 use Rattle.game_corners.specs.Corners.{last_player}
 use Rattle.grid_points.proofs.Accepted.{Accepted, accepted, blocks-few}
 use Rattle.grid_points.proofs.CoordinatesBelow.{division-below}
-use Rattle.grid_points.specs.Grid.{Grid, Point, num_indices, num_points, size, lent}
+use Rattle.grid_points.specs.Grid.{Grid, Point, first_index, num_indices, num_points, size, lent}
 use Rattle.game_weighed.proofs.Levels.{behind-alike, stand-to-alike}
 use Rattle.game_losses.specs.Game.{game_label, labels}
 use Rattle.points_in_order.proofs.Blocks.{point-length}
@@ -25,7 +25,7 @@ use Rattle.points_in_order.specs.Lent.{PointWithFirsts}
 use Rattle.game_labels.proofs.AllLabels.{labels_length, label-written}
 use Rattle.game_labels.proofs.Kept.{levels_kept}
 use Rattle.game_labels.proofs.game.label_points.Goals as goal
-use Rattle.game_labels.proofs.game.label_points.Goals.{Start, In-loop-k}
+use Rattle.game_labels.proofs.game.label_points.Goals.{Start, In-loop-label}
 
 -- what is known of the game
 module _ (s : Start) where
@@ -43,38 +43,41 @@ module _ (s : Start) where
       (point_at g s.args.firsts.now s.requires.grid 0 some s.args.point.now s.requires.first).is_point)
 
 -- what is known in a turn
-module _ (c : In-loop-k) where
+module _ (c : In-loop-label) where
   abbrev start : Start
-  start = (goal.at.In-loop-k c).Start
+  start = (goal.at.In-loop-label c).Start
 
   abbrev firsts : List ℕ
   firsts = c.args.firsts.now
 
   abbrev k : ℕ
-  k = c.loop-k.k
+  k = c.loop-label.label-index
 
   abbrev y : Point
-  y = c.loop-k.point
+  y = c.loop-label.point
 
-  abbrev from : ℕ
-  from = c.wide-from.result
+  abbrev begin : ℕ
+  begin = c.from-from.result
+
+  begins : begin ≡ first_index (g start) (last_player (g start))
+  begins = c.from-from.ensures ∙ c.requires.grid.first (last_player (g start)) (omega (arith, (yes start).some_block))
 
   inside : k < num_points (g start)
   inside = omega (arith, c.requires.whole)
 
   here : PointWithFirsts (g start) firsts y
-  here = point_at (g start) firsts c.requires.grid k inside y (c.loop-k.invariant.1 inside)
+  here = point_at (g start) firsts c.requires.grid k inside y (c.loop-label.invariant.here inside)
 
-  first-inside : from ≤ length y
+  first-inside : begin ≤ length y
   first-inside = omega (
     arith,
-    c.loop-k.invariant.9,
+    begins,
     last-ends (g start) (yes start).some_block,
     point-length (g start) (yes start) y here.is_point,
   )
 
   long : length c.args.point.now ≡ num_indices (g start)
-  long = sym c.loop-k.invariant.5 ∙ point-length (g start) (yes start) y here.is_point
+  long = omega (arith, c.loop-label.invariant.long, point-length (g start) (yes start) y here.is_point)
 
 pub overflow_sub-last : goal.overflow_sub-last
 overflow_sub-last c = omega (arith, (yes (goal.at.overflow_sub-last c).Start).some_block)
@@ -110,31 +113,23 @@ load_losses-requires c =
       ),
     )
 
-pub loop-k-init : goal.loop-k-init
-loop-k-init c =
-    let s = (goal.at.loop-k-init c).Start in (
-      sym (front-none c.args.buffer.now),
-      (λ h. c.requires.first),
-      omega arith,
-      refl,
-      omega (arith, c.requires.numbers),
-      refl,
-      c.requires.rows,
-      c.load_losses.ensures c.args.point.now,
-      (λ f. absurd_bool f),
-      c.wide-from.ensures
-          ∙ c.requires.grid.first (last_player (g s)) (omega (arith, (yes s).some_block)),
-      refl,
-      omega (arith, (yes s).some_block),
-      (λ f. absurd_bool f),
-      c.rests-rests.ensures,
-      refl,
-    )
+pub loop-label-init : goal.loop-label-init
+loop-label-init c =
+    let s = (goal.at.loop-label-init c).Start in
+    record {
+      written = sym (front-none c.args.buffer.now);
+      here = λ h. c.requires.first;
+      long = refl;
+      stand = c.load_losses.ensures c.args.point.now;
+      corners = λ f. absurd_bool f;
+      inside = omega (arith, (yes s).some_block);
+      kept = λ f. absurd_bool f;
+    }
 
 pub weigh_changed-requires : goal.weigh_changed-requires
 weigh_changed-requires c =
     let s = (goal.at.weigh_changed-requires c).Start in
-    let i = c.loop-k.invariant in
+    let i = c.loop-label.invariant in
     let ss = c.args.sizes.now in
     let ds = c.args.divisions.now in (
       ds,
@@ -143,94 +138,76 @@ weigh_changed-requires c =
         ones_are = c.requires.ones_are;
         table = c.requires.table;
         levels_at = record {
-          point = here (goal.at.weigh_changed-requires c).In-loop-k;
+          point = here (goal.at.weigh_changed-requires c).In-loop-label;
           owned = c.requires.owned;
-          rested = λ l j a b. i.13 l j a b ∙ behind-alike ss [] ds j l;
+          rested = λ l j a b. c.rests-rests.ensures l j a b ∙ behind-alike ss [] ds j l;
           range = c.requires.table.range;
-          whole = i.4;
-          stand = stand-to-alike ss [] ds c.args.losses.now c.loop-k.point c.loop-k.first
-              c.loop-k.levels i.7;
+          whole = omega (arith, c.requires.numbers);
+          stand = stand-to-alike ss [] ds c.args.losses.now c.loop-label.point c.loop-label.first
+              c.loop-label.levels i.stand;
         };
-        inside = i.11;
-        kept = i.12;
-        rows = i.6;
+        inside = i.inside;
+        kept = i.kept;
+        rows = omega (arith, c.requires.rows);
       },
     )
 
-pub offset_bounds-point-from : goal.offset_bounds-point-from
-offset_bounds-point-from c =
-    let w = (goal.at.offset_bounds-point-from c).In-loop-k in
-    let s = (goal.at.offset_bounds-point-from c).Start in
-    let ok = yes s in
-    omega (arith, first-inside w, point-length (g s) ok c.loop-k.point (here w).is_point, ok.few_indices)
-
 pub slice_bounds-label_point-count : goal.slice_bounds-label_point-count
-slice_bounds-label_point-count c = first-inside (goal.at.slice_bounds-label_point-count c).In-loop-k
+slice_bounds-label_point-count c = first-inside (goal.at.slice_bounds-label_point-count c).In-loop-label
 
 pub slice_bounds-label_point-start : goal.slice_bounds-label_point-start
-slice_bounds-label_point-start c = first-inside (goal.at.slice_bounds-label_point-start c).In-loop-k
+slice_bounds-label_point-start c = first-inside (goal.at.slice_bounds-label_point-start c).In-loop-label
 
-pub label_point-label-requires : goal.label_point-label-requires
-label_point-label-requires c =
-    let w = (goal.at.label_point-label-requires c).In-loop-k in
-    let s = (goal.at.label_point-label-requires c).Start in
-    let i = c.loop-k.invariant in
-    let stand = c.weigh_changed.ensures.cornered c.args.losses.now i.7 i.8 in
-    let rows = lent_rows (g s) c.args.firsts.now c.args.losses.now c.args.ones.now c.requires.ones_are c.loop-k.point
-    (here w) _ stand c.wide-from.result i.9 (omega arith) in
+pub label_point-requires : goal.label_point-requires
+label_point-requires c =
+    let w = (goal.at.label_point-requires c).In-loop-label in
+    let s = (goal.at.label_point-requires c).Start in
+    let i = c.loop-label.invariant in
+    let stand = c.weigh_changed.ensures.cornered c.args.losses.now i.stand i.corners in
+    let rows = lent_rows (g s) c.args.firsts.now c.args.losses.now c.args.ones.now c.requires.ones_are c.loop-label.point
+    (here w) _ stand c.from-from.result (begins w) (omega arith) in
     (omega (arith, long w, blocks-few (g s) (yes s), (yes s).some_block), rw (long w) rows)
 
 pub next_point-first-requires : goal.next_point-first-requires
 next_point-first-requires c =
-    (c.args.divisions.now, here (goal.at.next_point-first-requires c).In-loop-k)
+    (c.args.divisions.now, here (goal.at.next_point-first-requires c).In-loop-label)
 
-pub overflow_add-k : goal.overflow_add-k
-overflow_add-k c =
-    omega (arith, inside (goal.at.overflow_add-k c).In-loop-k, (yes (goal.at.overflow_add-k c).Start).few_points)
-
-pub loop-k-preserved : goal.loop-k-preserved
-loop-k-preserved c =
-    let w = (goal.at.loop-k-preserved c).In-loop-k in
-    let s = (goal.at.loop-k-preserved c).Start in
-    let i = c.loop-k.invariant in
+pub loop-label-preserved : goal.loop-label-preserved
+loop-label-preserved c =
+    let w = (goal.at.loop-label-preserved c).In-loop-label in
+    let s = (goal.at.loop-label-preserved c).Start in
+    let i = c.loop-label.invariant in
     let losses = c.args.losses.now in
     let ss = c.args.sizes.now in
     let v = c.weigh_changed in
-    let stand = v.ensures.cornered losses i.7 i.8 in
+    let stand = v.ensures.cornered losses i.stand i.corners in
     let a = c.next_point-first in
     let z : Point = a.new.point in
-    let label = c.label_point-label in
-    let is : label.result ≡ game_label (g s) losses c.loop-k.point = label.ensures
-    ∙ rw (long w) (lent-label (g s) c.args.firsts.now losses c.args.ones.now c.requires.ones_are c.loop-k.point
-    (here w) _ stand c.wide-from.result i.9) in
+    let label = c.label_point in
+    let is : label.result ≡ game_label (g s) losses c.loop-label.point = label.ensures
+    ∙ rw (long w) (lent-label (g s) c.args.firsts.now losses c.args.ones.now c.requires.ones_are c.loop-label.point
+    (here w) _ stand c.from-from.result (begins w)) in
     let ended : ltb a.result (length ss - 1) ≡ false → a.result ≡ last_player (g s) = λ f.
-    omega (arith, ltb-false a.result (length ss - 1) f, a.ensures.upper_bound.0) in (
-      rw (i.0, is)
-          (label-written (g s) c.loop-k.k losses c.args.buffer.now (inside w) c.requires.whole c.loop-k.point
-          (i.1 (inside w))),
-      (λ h. a.ensures.point_after
-          ∙ next-point (g s) c.args.firsts.now c.requires.grid c.loop-k.k h c.loop-k.point (i.1 (inside w))),
-      omega arith,
-      simp length-set i.3,
-      omega arith,
-      omega arith,
-      omega arith,
-      levels_kept (lent ss []) losses c.loop-k.point z a.result (length ss - 1) v.new.levels
-          (omega (arith, a.ensures.upper_bound.0)) a.ensures.upper_bound.1 (v.ensures.stand_to losses i.7),
-      (λ f. cornered_kept (lent ss c.args.ones.now) losses c.loop-k.point z (size (g s) (last_player (g s))) _
-          (rw (ended f) at a.ensures.upper_bound.1) stand),
-      i.9,
-      i.10,
-      a.ensures.upper_bound.0,
-      ended,
-      i.13,
-      i.14,
-    )
+    omega (arith, ltb-false a.result (length ss - 1) f, a.ensures.upper_bound.0) in
+    record {
+      written = rw (i.written, is)
+          (label-written (g s) c.loop-label.label-index losses c.args.buffer.now (inside w) c.requires.whole c.loop-label.point
+          (i.here (inside w)));
+      here = λ h. a.ensures.point_after
+          ∙ next-point (g s) c.args.firsts.now c.requires.grid c.loop-label.label-index h c.loop-label.point (i.here (inside w));
+      long = omega (arith, i.long);
+      stand = levels_kept (lent ss []) losses c.loop-label.point z a.result (length ss - 1) v.new.levels
+          (omega (arith, a.ensures.upper_bound.0)) a.ensures.upper_bound.1 (v.ensures.stand_to losses i.stand);
+      corners = λ f. cornered_kept (lent ss c.args.ones.now) losses c.loop-label.point z (size (g s) (last_player (g s))) _
+          (rw (ended f) at a.ensures.upper_bound.1) stand;
+      inside = a.ensures.upper_bound.0;
+      kept = ended;
+    }
 
 pub returns : goal.returns
 returns c =
     let s = (goal.at.returns c).Start in
-    let l = c.loop-k in
-    l.invariant.0
-    ∙ front-whole (labels (g s) c.args.losses.now) c.args.buffer.now l.k
+    let l = c.loop-label in
+    l.invariant.written
+    ∙ front-whole (labels (g s) c.args.losses.now) c.args.buffer.now l.label-index
     (omega (arith, labels_length (g s) c.args.losses.now, c.requires.whole))

@@ -11,15 +11,6 @@ use Rattle.game_weighed.proofs.Levels.{stand-to-alike}
 use Rattle.points_in_order.proofs.Blocks.{point-length}
 use Rattle.game_labels.proofs.game.weigh_changed.Goals as goal
 
-pub returns-then-not-changed : goal.returns-then-not-changed
-returns-then-not-changed c =
-    let no = c.if-not-changed.true in
-    record { stand_to = (λ t stand. rw (c.requires.2.kept no) at stand); cornered = λ t stand old. old no }
-
-pub weigh_levels-requires : goal.weigh_levels-requires
-weigh_levels-requires c =
-    (c.requires.2.inside, (c.requires.0, c.requires.1, c.requires.2.levels_at))
-
 pub weigh_corners-requires : goal.weigh_corners-requires
 weigh_corners-requires c =
     let x = c.requires.2 in

@@ -1,5 +1,5 @@
 -- `put_losses` meets its contract: the losses of the strategies passed stand in both arrays. Assumes nothing.
-use Prim.Native.Nat.{◌-◌, ◌*◌, ◌≤◌}
+use Prim.Native.Nat.{◌*◌}
 use mathlib.Core.List.{map}
 use mathlib.Core.Path.{◌≡◌}
 use lib.ListN.{length, take, replicate}
@@ -11,8 +11,3 @@ abbrev pub invariant-loop-k : goal.invariant-loop-k
 invariant-loop-k l =
     (l.expected ≡ paste l.initial.expected l.first (replicate (length l.mix) (dot l.mix l.values)) l.k)
     × (l.replaced ≡ paste l.initial.replaced l.first (map (λ v. l.division * v) (take (length l.mix) l.values)) l.k)
-    × (l.loss ≡ dot l.mix l.values) × (l.k ≤ length l.mix) × (length l.expected ≡ length l.initial.expected)
-    × (length l.replaced ≡ length l.initial.replaced)
-
-abbrev pub decreases-loop-k : goal.decreases-loop-k
-decreases-loop-k l = length l.mix - l.k

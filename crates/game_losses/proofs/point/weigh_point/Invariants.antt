@@ -1,8 +1,8 @@
 -- `weigh_point` meets its contract: the losses of the players passed stand at their indices. Assumes nothing.
 use mathlib.Core.List.{List, map}
 use mathlib.Core.Path.{◌≡◌}
-use Prim.Native.Nat.{ℕ, ◌-◌, ◌≤◌}
-use lib.ListN.{length, take}
+use Prim.Native.Nat.{ℕ}
+use lib.ListN.{take}
 use Rattle.combinatorics.specs.Front.{front}
 use Rattle.combinatorics.specs.Lists.{sum, up_from}
 use Rattle.grid_points.specs.Grid.{lent}
@@ -17,8 +17,3 @@ invariant-loop-player l =
     × ((t : List ℕ) → StrategiesStand (lent l.sizes l.divisions) t l.point l.values
     → l.replaced
     ≡ front (map (replaced_loss (lent l.sizes l.divisions) t l.point) (up_from 0 (sum (take l.player l.sizes)))) l.initial.replaced)
-    × (l.player ≤ length l.sizes) × (length l.expected ≡ length l.initial.expected)
-    × (length l.replaced ≡ length l.initial.replaced)
-
-abbrev pub decreases-loop-player : goal.decreases-loop-player
-decreases-loop-player l = length l.sizes - l.player

@@ -12,10 +12,10 @@ use Rattle.game_point.proofs.Compared.{ends, expected_here, expected_low, length
 use Rattle.game_point.specs.Label.{GameAt}
 use borrow.Author.Rules.{rules}
 use Rattle.game_point.proofs.differing.difference.Goals as goal
-use Rattle.game_point.proofs.differing.difference.Goals.{After-wide-owner, After-wide}
+use Rattle.game_point.proofs.differing.difference.Goals.{After-from-owner, After-from}
 
 -- what is known once the owner is read
-module _ (c : After-wide-owner) where
+module _ (c : After-from-owner) where
   abbrev g : Grid
   g = lent c.args.sizes.now c.args.divisions.now
 
@@ -26,101 +26,87 @@ module _ (c : After-wide-owner) where
   inside : c.args.h < num_indices g
   inside = c.requires.2
 
-  owner_is : c.wide-owner.result ≡ block_of g c.args.h
-  owner_is = c.wide-owner.ensures ∙ game.owned c.args.h inside
+  owner_is : c.from-owner.result ≡ block_of g c.args.h
+  owner_is = c.from-owner.ensures ∙ game.owned c.args.h inside
 
-  low : c.wide-owner.result < length c.args.sizes.now
+  low : c.from-owner.result < length c.args.sizes.now
   low = omega (arith, owner_is, (block_spans c.args.sizes.now c.args.h inside).0)
 
 -- and the part of the block
-module _ (c : After-wide) where
-  abbrev own : After-wide-owner
-  own = (goal.at.After-wide c).After-wide-owner
+module _ (c : After-from) where
+  abbrev own : After-from-owner
+  own = (goal.at.After-from c).After-from-owner
 
-  first-is : c.wide-first.result ≡ first_index (g own) c.wide-owner.result
-  first-is = c.wide-first.ensures ∙ (game own).first c.wide-owner.result (low own)
+  first-is : c.from-first.result ≡ first_index (g own) c.from-owner.result
+  first-is = c.from-first.ensures ∙ (game own).first c.from-owner.result (low own)
 
-  inner : (c.wide-first.result + c.wide.result ≤ length c.args.point.now)
-      × (c.wide-first.result + c.wide.result ≤ 16)
+  inner : (c.from-first.result + c.from.result ≤ length c.args.point.now)
+      × (c.from-first.result + c.from.result ≤ 16)
   inner = ends (game own) c.args.values.now c.requires.0.2 c.requires.1
-      c.args.h (inside own) c.wide-owner.result c.wide-first.result c.wide.result
+      c.args.h (inside own) c.from-owner.result c.from-first.result c.from.result
       (owner_is own)
-      first-is c.wide.ensures
+      first-is c.from.ensures
 
-  replaced-few : division (g own) c.wide-owner.result * at c.args.values.now c.args.h ≤ 9000000000000000000
+  replaced-few : division (g own) c.from-owner.result * at c.args.values.now c.args.h ≤ 9000000000000000000
   replaced-few =
-      replaced-low (game own) c.args.values.now c.requires.0.2 c.requires.1 c.args.h (inside own) c.wide-owner.result
-      c.wide-first.result c.wide.result (owner_is own) first-is c.wide.ensures
+      replaced-low (game own) c.args.values.now c.requires.0.2 c.requires.1 c.args.h (inside own) c.from-owner.result
+      c.from-first.result c.from.result (owner_is own) first-is c.from.ensures
 
 pub bounds-firsts-owner : goal.bounds-firsts-owner
 bounds-firsts-owner c =
-    let o = (goal.at.bounds-firsts-owner c).After-wide-owner in
+    let o = (goal.at.bounds-firsts-owner c).After-from-owner in
     omega (arith, low o, (game o).grid.few_blocks)
 
 pub bounds-sizes-owner : goal.bounds-sizes-owner
-bounds-sizes-owner c = omega (arith, low (goal.at.bounds-sizes-owner c).After-wide-owner)
-
-pub overflow_add-end : goal.overflow_add-end
-overflow_add-end c = omega (arith, inner c)
-
-pub offset_bounds-point-first : goal.offset_bounds-point-first
-offset_bounds-point-first c = omega (arith, inner c)
+bounds-sizes-owner c = omega (arith, low (goal.at.bounds-sizes-owner c).After-from-owner)
 
 pub slice_bounds-dot-end : goal.slice_bounds-dot-end
 slice_bounds-dot-end c = let e = inner c in search rules
 
-pub offset_bounds-values-first : goal.offset_bounds-values-first
-offset_bounds-values-first c = omega (arith, inner (goal.at.offset_bounds-values-first c).After-wide)
-
 pub slice_bounds-dot-end-2 : goal.slice_bounds-dot-end-2
 slice_bounds-dot-end-2 c =
-    let e = inner (goal.at.slice_bounds-dot-end-2 c).After-wide in
+    let e = inner (goal.at.slice_bounds-dot-end-2 c).After-from in
     let l = c.requires.1 in
     search rules
 
 pub dot-expected-requires : goal.dot-expected-requires
 dot-expected-requires c =
-    let w = (goal.at.dot-expected-requires c).After-wide in
+    let w = (goal.at.dot-expected-requires c).After-from in
     let o = own w in (
-      lengths (game o) c.args.values.now c.requires.0.2 c.requires.1 c.args.h (inside o) c.wide-owner.result
-          c.wide-first.result c.wide.result (owner_is o) (first-is w) c.wide.ensures,
+      lengths (game o) c.args.values.now c.requires.0.2 c.requires.1 c.args.h (inside o) c.from-owner.result
+          c.from-first.result c.from.result (owner_is o) (first-is w) c.from.ensures,
       expected_low (game o) c.args.values.now c.requires.0.2 c.requires.1 c.args.h (inside o)
-          c.wide-owner.result c.wide-first.result c.wide.result (owner_is o) (first-is w) c.wide.ensures,
+          c.from-owner.result c.from-first.result c.from.result (owner_is o) (first-is w) c.from.ensures,
     )
-
-pub offset_bounds-divisions-owner : goal.offset_bounds-divisions-owner
-offset_bounds-divisions-owner c =
-    let o = (goal.at.offset_bounds-divisions-owner c).After-wide-owner in
-    omega (arith, low o, (game o).grid.few_blocks)
 
 pub bounds-divisions-owner : goal.bounds-divisions-owner
 bounds-divisions-owner c =
-    let o = (goal.at.bounds-divisions-owner c).After-wide-owner in
+    let o = (goal.at.bounds-divisions-owner c).After-from-owner in
     omega (arith, low o, (game o).grid.same_number)
 
 pub overflow_mul-replaced : goal.overflow_mul-replaced
 overflow_mul-replaced c =
-    record { fits = rw c.long64.ensures (omega (arith, replaced-few (goal.at.overflow_mul-replaced c).After-wide)) }
+    record { fits = rw c.from-2.ensures (omega (arith, replaced-few (goal.at.overflow_mul-replaced c).After-from)) }
 
 pub signed_difference-requires : goal.signed_difference-requires
 signed_difference-requires c =
-    let w = (goal.at.signed_difference-requires c).After-wide in
+    let w = (goal.at.signed_difference-requires c).After-from in
     let o = own w in (
       rw c.dot-expected.ensures
           (expected_low (game o) c.args.values.now c.requires.0.2 c.requires.1 c.args.h (inside o)
-          c.wide-owner.result c.wide-first.result c.wide.result (owner_is o) (first-is w) c.wide.ensures),
-      rw c.long64.ensures (replaced-few w),
+          c.from-owner.result c.from-first.result c.from.result (owner_is o) (first-is w) c.from.ensures),
+      rw c.from-2.ensures (replaced-few w),
     )
 
 pub returns : goal.returns
 returns c =
-    let w = (goal.at.returns c).After-wide in
+    let w = (goal.at.returns c).After-from in
     let o = own w in
     let d = c.signed_difference in
     let fits : SFits w64 d.result = search rules in
     λ losses G are.
-    let e = expected_here G c.args.values.now are c.requires.1 c.args.h (inside o) c.wide-owner.result
-    c.wide-first.result c.wide.result (owner_is o) (first-is w) c.wide.ensures in
-    let r = replaced-here G c.args.values.now are c.requires.1 c.args.h (inside o) c.wide-owner.result
-    c.wide-first.result c.wide.result (owner_is o) (first-is w) c.wide.ensures in
-    simp to_z-of_z (d.ensures ∙ rw (c.dot-expected.ensures, e, c.long64.ensures, r))
+    let e = expected_here G c.args.values.now are c.requires.1 c.args.h (inside o) c.from-owner.result
+    c.from-first.result c.from.result (owner_is o) (first-is w) c.from.ensures in
+    let r = replaced-here G c.args.values.now are c.requires.1 c.args.h (inside o) c.from-owner.result
+    c.from-first.result c.from.result (owner_is o) (first-is w) c.from.ensures in
+    simp to_z-of_z (d.ensures ∙ rw (c.dot-expected.ensures, e, c.from-2.ensures, r))

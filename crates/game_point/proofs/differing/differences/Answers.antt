@@ -1,5 +1,5 @@
 -- `differences` meets its contract: those of the indices passed stand in the array. Assumes nothing.
-use mathlib.Core.Path.{◌≡◌, refl}
+use mathlib.Core.Path.{◌≡◌}
 use native.Mathlib.Omega.{arith}
 use lib.ListN.{length, length-set}
 use mir.Facts.{to_z-of_z}
@@ -17,12 +17,9 @@ long : (c : Start)
     → length c.args.point.now ≡ num_indices (lent c.args.sizes.now c.args.divisions.now)
 long c = point-long (lent c.args.sizes.now c.args.divisions.now) c.args.point.now c.requires.1.is_point
 
-pub loop-h-init : goal.loop-h-init
-loop-h-init c = ((λ losses G are i l. absurd (omega arith)), omega arith, refl)
-
-pub difference-d-requires : goal.difference-d-requires
-difference-d-requires c =
-    (c.requires, omega arith, omega (arith, long (goal.at.difference-d-requires c).Start))
+pub difference-requires : goal.difference-requires
+difference-requires c =
+    (c.requires, omega arith, omega (arith, long (goal.at.difference-requires c).Start))
 
 pub offset_bounds-differences-h : goal.offset_bounds-differences-h
 offset_bounds-differences-h c =
@@ -35,15 +32,14 @@ bounds-differences-h c =
 pub loop-h-preserved : goal.loop-h-preserved
 loop-h-preserved c =
     let l = c.loop-h in
-    let d = c.difference-d in
+    let d = c.difference in
     let g = lent c.args.sizes.now c.args.divisions.now in
     let fits : SFits w64 d.result = search rules in
     let z : to_z w64 (of_z w64 d.result) ≡ d.result = to_z-of_z {w = w64} fits in (
       (λ losses G are. entry_next (λ i v. v ≡ difference g losses c.args.point.now i) l.differences l.h _
           (omega (arith, long (goal.at.loop-h-preserved c).Start, c.requires.1.grid.few_indices)) (l.invariant.0 losses G are)
           (rw z (d.ensures losses G are))),
-      omega arith,
-      simp length-set l.invariant.2,
+      simp length-set l.invariant.1,
     )
 
 pub returns : goal.returns

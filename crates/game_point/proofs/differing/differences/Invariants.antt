@@ -1,7 +1,7 @@
 -- `differences` meets its contract: those of the indices passed stand in the array. Assumes nothing.
 use mathlib.Core.List.{List}
 use mathlib.Core.Path.{◌≡◌}
-use Prim.Native.Nat.{ℕ, ◌-◌, ◌≤◌, ◌<◌}
+use Prim.Native.Nat.{ℕ, ◌<◌}
 use lib.ListN.{length}
 use Rattle.game_corners.specs.Corners.{signed_at}
 use Rattle.grid_points.specs.Grid.{lent}
@@ -14,7 +14,4 @@ invariant-loop-h l =
     ((losses : List ℕ) → GameAt (lent l.sizes l.divisions) l.firsts l.owners losses l.point
     → OwnLosses (lent l.sizes l.divisions) losses l.point l.values
     → (i : ℕ) → i < l.h → signed_at l.differences i ≡ difference (lent l.sizes l.divisions) losses l.point i)
-    × (l.h ≤ length l.point) × (length l.differences ≡ 16)
-
-abbrev pub decreases-loop-h : goal.decreases-loop-h
-decreases-loop-h l = length l.point - l.h
+    × (length l.differences ≡ 16)

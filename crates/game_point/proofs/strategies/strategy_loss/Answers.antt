@@ -10,10 +10,10 @@ use Rattle.game_point.proofs.OwnLosses.{can, is-own, spans, within}
 use Rattle.game_point.specs.Label.{GameAt}
 use borrow.Author.Rules.{rules}
 use Rattle.game_point.proofs.strategies.strategy_loss.Goals as goal
-use Rattle.game_point.proofs.strategies.strategy_loss.Goals.{After-wide-owner, After-wide}
+use Rattle.game_point.proofs.strategies.strategy_loss.Goals.{After-from-owner, After-from}
 
 -- what is known once the owner is read
-module _ (c : After-wide-owner) where
+module _ (c : After-from-owner) where
   abbrev g : Grid
   g = lent c.args.sizes.now c.requires.by_index.0
 
@@ -24,13 +24,13 @@ module _ (c : After-wide-owner) where
   inside : c.args.h < num_indices g
   inside = c.requires.count_value.1
 
-  owner_is : c.wide-owner.result ≡ block_of g c.args.h
-  owner_is = c.wide-owner.ensures ∙ game.owned c.args.h inside
+  owner_is : c.from-owner.result ≡ block_of g c.args.h
+  owner_is = c.from-owner.ensures ∙ game.owned c.args.h inside
 
-  low : c.wide-owner.result < length c.args.sizes.now
+  low : c.from-owner.result < length c.args.sizes.now
   low = omega (arith, owner_is, (block_spans c.args.sizes.now c.args.h inside).0)
 
-  counted : c.wide-owner.result * c.args.count ≤ length c.args.losses.now
+  counted : c.from-owner.result * c.args.count ≤ length c.args.losses.now
   counted =
       let m = mul-le-mul_right c.args.count low in
       let e : length c.args.losses.now ≡ length c.args.sizes.now * c.args.count =
@@ -38,44 +38,41 @@ module _ (c : After-wide-owner) where
       omega arith
 
 -- and the first index
-module _ (c : After-wide) where
-  abbrev own : After-wide-owner
-  own = (goal.at.After-wide c).After-wide-owner
+module _ (c : After-from) where
+  abbrev own : After-from-owner
+  own = (goal.at.After-from c).After-from-owner
 
   abbrev size : ℕ
-  size = at c.args.sizes.now c.wide-owner.result
+  size = at c.args.sizes.now c.from-owner.result
 
   abbrev rest : ℕ
-  rest = at c.args.rests.now c.wide-owner.result
+  rest = at c.args.rests.now c.from-owner.result
 
-  first-is : c.wide.result ≡ first_index (g own) c.wide-owner.result
-  first-is = c.wide.ensures ∙ (game own).first c.wide-owner.result (low own)
+  first-is : c.from.result ≡ first_index (g own) c.from-owner.result
+  first-is = c.from.ensures ∙ (game own).first c.from-owner.result (low own)
 
-  before : (c.wide.result ≤ c.args.h) × (c.args.h < c.wide.result + size)
+  before : (c.from.result ≤ c.args.h) × (c.args.h < c.from.result + size)
   before = spans (game own) c.args.rests.now c.requires.rests c.args.h (inside own)
-      c.wide-owner.result c.args.count c.wide.result size rest (owner_is own) c.requires.count_value.0
+      c.from-owner.result c.args.count c.from.result size rest (owner_is own) c.requires.count_value.0
       first-is refl refl
 
-  ends : c.wide-owner.result * c.args.count + (c.args.h - c.wide.result) * rest + rest
+  ends : c.from-owner.result * c.args.count + (c.args.h - c.from.result) * rest + rest
       ≤ length c.args.losses.now
   ends = within (game own) c.args.rests.now c.requires.rests c.args.h (inside own)
-      c.wide-owner.result c.args.count c.wide.result size rest (owner_is own) c.requires.count_value.0
+      c.from-owner.result c.args.count c.from.result size rest (owner_is own) c.requires.count_value.0
       first-is refl refl
-
-pub offset_bounds-rests-owner : goal.offset_bounds-rests-owner
-offset_bounds-rests-owner c = omega (arith, low c, (game c).grid.few_blocks)
 
 pub bounds-rests-owner : goal.bounds-rests-owner
 bounds-rests-owner c =
-    let o = (goal.at.bounds-rests-owner c).After-wide-owner in
+    let o = (goal.at.bounds-rests-owner c).After-from-owner in
     omega (arith, low o, (game o).grid.few_blocks)
 
 pub overflow_mul-at : goal.overflow_mul-at
-overflow_mul-at c = omega (arith, counted (goal.at.overflow_mul-at c).After-wide-owner)
+overflow_mul-at c = omega (arith, counted (goal.at.overflow_mul-at c).After-from-owner)
 
 pub bounds-firsts-owner : goal.bounds-firsts-owner
 bounds-firsts-owner c =
-    let o = (goal.at.bounds-firsts-owner c).After-wide-owner in
+    let o = (goal.at.bounds-firsts-owner c).After-from-owner in
     omega (arith, low o, (game o).grid.few_blocks)
 
 pub overflow_sub-at : goal.overflow_sub-at
@@ -98,15 +95,15 @@ slice_bounds-weigh-end c = let e = ends c in search rules
 
 pub weigh-requires : goal.weigh-requires
 weigh-requires c =
-    let w = (goal.at.weigh-requires c).After-wide in
+    let w = (goal.at.weigh-requires c).After-from in
     let o = own w in
-    can (game o) c.args.rests.now c.requires.rests c.args.h (inside o) c.wide-owner.result
-    c.args.count c.wide.result (size w) (rest w) (owner_is o) c.requires.count_value.0 (first-is w) refl refl
+    can (game o) c.args.rests.now c.requires.rests c.args.h (inside o) c.from-owner.result
+    c.args.count c.from.result (size w) (rest w) (owner_is o) c.requires.count_value.0 (first-is w) refl refl
 
 pub returns : goal.returns
 returns c =
-    let w = (goal.at.returns c).After-wide in
+    let w = (goal.at.returns c).After-from in
     let o = own w in
     c.weigh.ensures
-    ∙ is-own (game o) c.args.rests.now c.requires.rests c.args.h (inside o) c.wide-owner.result
-    c.args.count c.wide.result (size w) (rest w) (owner_is o) c.requires.count_value.0 (first-is w) refl refl
+    ∙ is-own (game o) c.args.rests.now c.requires.rests c.args.h (inside o) c.from-owner.result
+    c.args.count c.from.result (size w) (rest w) (owner_is o) c.requires.count_value.0 (first-is w) refl refl

@@ -1,6 +1,6 @@
 -- `strategy_losses` meets its contract: the losses of the indices passed stand in the array. Assumes nothing.
 use mathlib.Core.List.{[]}
-use mathlib.Core.Path.{◌≡◌, refl}
+use mathlib.Core.Path.{◌≡◌}
 use native.Mathlib.Omega.{arith}
 use lib.ListN.{length, length-set}
 use Rattle.grid_points.proofs.Points.{point-long}
@@ -13,20 +13,11 @@ use Rattle.game_point.proofs.strategies.strategy_losses.Goals.{Start}
 long : (c : Start) → length c.args.point.now ≡ num_indices (lent c.args.sizes.now [])
 long c = point-long (lent c.args.sizes.now c.requires.by_index.0) c.args.point.now c.requires.by_index.1.is_point
 
-pub num_profiles-count-requires : goal.num_profiles-count-requires
-num_profiles-count-requires c = c.requires.by_index.1.grid.few_indices
-
-pub loop-h-init : goal.loop-h-init
-loop-h-init c = ((λ i l. absurd (omega arith)), omega arith, refl)
-
-pub strategy_loss-value-requires : goal.strategy_loss-value-requires
-strategy_loss-value-requires c =
-    record {
-      by_index = c.requires.by_index;
-      rests = c.requires.rests;
-      count_value =
-          (c.num_profiles-count.ensures, omega (arith, long (goal.at.strategy_loss-value-requires c).Start));
-    }
+pub strategy_loss-requires-clause-count_value : goal.strategy_loss-requires-clause-count_value
+strategy_loss-requires-clause-count_value c = (
+  c.num_profiles-count.ensures,
+  omega (arith, long (goal.at.strategy_loss-requires-clause-count_value c).Start),
+)
 
 pub offset_bounds-values-h : goal.offset_bounds-values-h
 offset_bounds-values-h c =
@@ -41,9 +32,8 @@ loop-h-preserved c =
     let l = c.loop-h in (
       entries_turn (own_loss (lent c.args.sizes.now []) c.args.losses.now c.args.point.now) l.values
           l.h _ (omega (arith, long (goal.at.loop-h-preserved c).Start, c.requires.by_index.1.grid.few_indices))
-          c.strategy_loss-value.ensures l.invariant.0,
-      omega arith,
-      simp length-set l.invariant.2,
+          c.strategy_loss.ensures l.invariant.0,
+      simp length-set l.invariant.1,
     )
 
 pub returns : goal.returns

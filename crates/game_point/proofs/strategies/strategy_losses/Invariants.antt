@@ -1,7 +1,7 @@
 -- `strategy_losses` meets its contract: the losses of the indices passed stand in the array. Assumes nothing.
 use mathlib.Core.List.{[]}
 use mathlib.Core.Path.{◌≡◌}
-use Prim.Native.Nat.{ℕ, ◌-◌, ◌≤◌, ◌<◌}
+use Prim.Native.Nat.{ℕ, ◌<◌}
 use lib.ListN.{length}
 use Rattle.grid_points.specs.Grid.{at, lent}
 use Rattle.game_point.specs.Label.{own_loss}
@@ -10,7 +10,4 @@ use Rattle.game_point.proofs.strategies.strategy_losses.Given as goal
 abbrev pub invariant-loop-h : goal.invariant-loop-h
 invariant-loop-h l =
     ((i : ℕ) → i < l.h → at l.values i ≡ own_loss (lent l.sizes []) l.losses l.point i)
-    × (l.h ≤ length l.point) × (length l.values ≡ 16)
-
-abbrev pub decreases-loop-h : goal.decreases-loop-h
-decreases-loop-h l = length l.point - l.h
+    × (length l.values ≡ 16)

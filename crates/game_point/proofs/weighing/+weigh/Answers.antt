@@ -7,7 +7,7 @@ use native.Mathlib.Omega.{arith}
 use borrow.Author.Rules.{rules}
 use lib.ListN.{length, drop, get_or}
 use Rattle.grid_points.proofs.Round.{block-fits}
-use Rattle.grid_points.specs.Grid.{Grid, lent}
+use Rattle.grid_points.specs.Grid.{Grid, first_index, lent}
 use Rattle.game_losses.specs.Game.{dot, mix}
 use Rattle.game_losses.specs.Weights.{weighed}
 use Rattle.game_weighed.specs.Levels.{behind}
@@ -29,8 +29,14 @@ module _ (t : ℕ) (c : In-loop-k t) where
   other : c.args.block ≡ c.args.player → ⊥
   other = c.if-block-player.false
 
+  below : c.args.block < length c.args.sizes.now
+  below = omega (arith, can.inside)
+
   abbrev s : ℕ
-  s = c.wide-size.result
+  s = c.from-size.result
+
+  first-is : c.from-first.result ≡ first_index g c.args.block
+  first-is = c.from-first.ensures ∙ can.first c.args.block below
 
   abbrev r : ℕ
   r = c.rest_behind-rest.result
@@ -39,37 +45,37 @@ module _ (t : ℕ) (c : In-loop-k t) where
   r_is = c.rest_behind-rest.ensures g can.resting can.few
 
   row : c.loop-k.k * r + r ≤ length c.args.losses.now
-  row = row_inside can c.loop-k.invariant.3 other s r c.loop-k.invariant.1 r_is c.loop-k.k (omega arith)
+  row = row_inside can below other s r c.from-size.ensures r_is c.loop-k.k (omega arith)
 
   -- where the strategy's share stands in the point
-  share : c.wide-first.result + c.loop-k.k < length c.args.point.now
+  share : c.from-first.result + c.loop-k.k < length c.args.point.now
   share = omega (
     arith,
-    c.loop-k.invariant.2,
+    first-is,
     block-fits c.args.sizes.now c.args.block,
     can.room,
-    c.loop-k.invariant.1,
+    c.from-size.ensures,
   )
 
   -- one strategy more
   module _ (value : ℕ)
       (e : value
       ≡ dot (weights_from g c.args.point.now c.args.player (c.args.block + 1))
-      (part can c.loop-k.invariant.3 other s r c.loop-k.invariant.1 r_is c.loop-k.k)) where
+      (part can below other s r c.from-size.ensures r_is c.loop-k.k)) where
     more : (let values = weighed s
         (weights_from g c.args.point.now c.args.player (c.args.block + 1))
         c.args.losses.now in
         let shares = mix g c.args.point.now c.args.block in
         dot (drop c.loop-k.k shares) (drop c.loop-k.k values)
-        ≡ get_or c.args.point.now (c.wide-first.result + c.loop-k.k) 0 * value
+        ≡ get_or c.args.point.now (c.from-first.result + c.loop-k.k) 0 * value
         + dot (drop (c.loop-k.k + 1) shares) (drop (c.loop-k.k + 1) values))
-    more = one_more can c.loop-k.invariant.3 other s r c.loop-k.invariant.1 r_is c.loop-k.k _ value (omega arith)
-        c.loop-k.invariant.2 e
+    more = one_more can below other s r c.from-size.ensures r_is c.loop-k.k _ value (omega arith)
+        first-is e
 
   low : dot (mix g c.args.point.now c.args.block)
       (weighed s (weights_from g c.args.point.now c.args.player (c.args.block + 1))
       c.args.losses.now) ≤ 9000000000000000000
-  low = total-low can c.loop-k.invariant.3 other s r c.loop-k.invariant.1 r_is
+  low = total-low can below other s r c.from-size.ensures r_is
 
 pub weigh-requires : goal.weigh-requires
 weigh-requires t c =
@@ -101,8 +107,8 @@ pub weigh-value-requires : goal.weigh-value-requires
 weigh-value-requires t c =
     let w = (goal.at.weigh-value-requires t c).In-loop-k in
     let l = c.loop-k in (
-      omega (arith, c.decreases, l.invariant.3),
-      can_part (can t w) l.invariant.3 (other t w) (s t w) (r t w) l.invariant.1 (r_is t w) l.k (omega arith),
+      omega (arith, c.decreases, below t w),
+      can_part (can t w) (below t w) (other t w) (s t w) (r t w) w.from-size.ensures (r_is t w) l.k (omega arith),
     )
 
 pub bounds-point-first : goal.bounds-point-first
@@ -113,35 +119,30 @@ overflow_mul-total t c =
     let w = (goal.at.overflow_mul-total t c).In-loop-k in
     let e = more t w c.weigh-value.result c.weigh-value.ensures in
     let few = low t w in
-    let inv = c.loop-k.invariant.4 in
-    record { fits = rw c.long64-in-loop-k.ensures (omega arith) }
+    let inv = c.loop-k.invariant in
+    record { fits = rw c.from-in-loop-k.ensures (omega arith) }
 
 pub overflow_add-total : goal.overflow_add-total
 overflow_add-total t c =
     let w = (goal.at.overflow_add-total t c).In-loop-k in
     let e = more t w c.weigh-value.result c.weigh-value.ensures in
     let few = low t w in
-    let inv = c.loop-k.invariant.4 in
-    record { fits = rw c.long64-in-loop-k.ensures (omega arith) }
+    let inv = c.loop-k.invariant in
+    record { fits = rw c.from-in-loop-k.ensures (omega arith) }
 
 pub loop-k-preserved : goal.loop-k-preserved
 loop-k-preserved t c =
     let w = (goal.at.loop-k-preserved t c).In-loop-k in
     let e = more t w c.weigh-value.result c.weigh-value.ensures in
-    let i = c.loop-k.invariant in (
-      omega arith,
-      i.1,
-      i.2,
-      i.3,
-      rw c.long64-in-loop-k.ensures (omega arith),
-    )
+    let i = c.loop-k.invariant in
+    rw c.from-in-loop-k.ensures (omega arith)
 
 pub returns : goal.returns
 returns t c =
-    let i = c.loop-k.invariant in
-    let z : c.loop-k.k ≡ c.wide-size.result = omega arith in
+    let h : c.args.block < length c.args.sizes.now = omega (arith, c.requires.inside) in
+    let z : c.loop-k.k ≡ c.from-size.result = omega arith in
     let r = c.rest_behind-rest.result in
     let r_is = c.rest_behind-rest.ensures (lent c.args.sizes.now []) c.requires.resting c.requires.few in
-    let e = no_more_lem c.requires i.3 c.if-block-player.false c.wide-size.result r i.1 r_is in
-    let inv = rw z at i.4 in
-    omega (arith, total-is c.requires i.3 c.if-block-player.false c.wide-size.result r i.1 r_is)
+    let e = no_more_lem c.requires h c.if-block-player.false c.from-size.result r c.from-size.ensures r_is in
+    let inv = rw z at c.loop-k.invariant in
+    omega (arith, total-is c.requires h c.if-block-player.false c.from-size.result r c.from-size.ensures r_is)

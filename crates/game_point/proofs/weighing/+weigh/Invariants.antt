@@ -2,9 +2,9 @@
 -- Assumes nothing.
 use mathlib.Core.List.{[]}
 use mathlib.Core.Path.{◌≡◌}
-use Prim.Native.Nat.{◌+◌, ◌-◌, ◌≤◌, ◌<◌}
+use Prim.Native.Nat.{◌+◌, ◌-◌}
 use lib.ListN.{length, drop}
-use Rattle.grid_points.specs.Grid.{first_index, lent, size as size_of}
+use Rattle.grid_points.specs.Grid.{lent}
 use Rattle.game_losses.specs.Game.{dot, mix}
 use Rattle.game_losses.specs.Weights.{weighed}
 use Rattle.game_point.specs.Weighing.{weights_from}
@@ -18,8 +18,4 @@ invariant-loop-k l =
     let g = lent l.sizes [] in
     let shares = mix g l.point l.block in
     let values = weighed l.size (weights_from g l.point l.player (l.block + 1)) l.losses in
-    (l.k ≤ l.size) × (l.size ≡ size_of g l.block) × (l.first ≡ first_index g l.block) × (l.block < length l.sizes)
-    × (l.total + dot (drop l.k shares) (drop l.k values) ≡ dot shares values)
-
-abbrev pub decreases-loop-k : goal.decreases-loop-k
-decreases-loop-k l = l.size - l.k
+    l.total + dot (drop l.k shares) (drop l.k values) ≡ dot shares values

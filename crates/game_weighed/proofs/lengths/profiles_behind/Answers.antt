@@ -1,53 +1,39 @@
--- `profiles_behind` meets its contract: the blocks from j on are counted. Assumes nothing.
+-- `profiles_behind` meets its contract: what is counted and what is left make the whole. Assumes nothing.
 use mathlib.Core.List.{[]}
-use mathlib.Core.Logic.{inl, inr, ⊎_elim}
-use mathlib.Core.Path.{◌≡◌, refl, sym, ◌∙◌}
-use Prim.Native.Nat.{◌-◌, ◌≤◌}
+use native.Mathlib.Nat.{mul_assoc}
 use native.Mathlib.Omega.{arith}
 use Rattle.grid_points.specs.Grid.{lent}
-use Rattle.game_weighed.proofs.Levels.{behind-none, behind_turn, behind_skip, behind-low}
+use Rattle.game_weighed.proofs.Levels.{behind-none, behind_turn, behind_skip, counted-low}
 use Rattle.game_weighed.proofs.lengths.profiles_behind.Goals as goal
-
-pub loop-j-init : goal.loop-j-init
-loop-j-init c = (sym (behind-none (lent c.args.sizes.now []) _ _ (omega arith)), omega arith, inl refl)
+use Rattle.game_weighed.proofs.lengths.profiles_behind.Goals.{then-j-player, else-j-player}
 
 pub overflow_mul-count : goal.overflow_mul-count
 overflow_mul-count c =
     let l = c.loop-j in
-    let g = lent c.args.sizes.now [] in
+    let a = c.args in
     record {
-      fits = rw (c.wide-count.ensures, l.invariant.0) (omega (
+      fits = rw c.from-count.ensures (omega (
         arith,
-        behind_turn g c.args.player l.j (omega arith) (omega arith) c.if-j-player.true,
-        behind-low g c.args.player c.requires.0 c.requires.1 (l.j - 1),
+        counted-low (lent a.sizes.now []) a.player c.requires.0 c.requires.1 a.first l.count l.j (omega arith)
+            c.if-j-player.true l.invariant,
       ));
     }
 
-pub loop-j-preserved-then-j-player : goal.loop-j-preserved-then-j-player
-loop-j-preserved-then-j-player c =
-    let l = c.loop-j in (
-      rw (c.wide-count.ensures, l.invariant.0)
-          (behind_turn (lent c.args.sizes.now []) c.args.player l.j (omega arith) (omega arith)
-          c.if-j-player.true),
-      omega arith,
-      inr (omega arith),
-    )
-
 pub loop-j-preserved : goal.loop-j-preserved
 loop-j-preserved c =
-    let l = c.loop-j in (
-      l.invariant.0
-          ∙ behind_skip (lent c.args.sizes.now []) c.args.player l.j (omega arith) (omega arith)
-          c.if-j-player.false,
-      omega arith,
-      inr (omega arith),
-    )
+    let l = c.loop-j in
+    let g = lent c.args.sizes.now [] in
+    let p = c.args.player in
+    elim c.if-j-player.branch [
+      | then-j-player w ↦
+          rw (w.count-is, w.from-count.ensures, mul_assoc, ← behind_turn g p l.j (omega arith) w.if-j-player.true)
+          l.invariant
+      | else-j-player w ↦
+          rw (w.count-is, ← behind_skip g p l.j (omega arith) w.if-j-player.false) l.invariant
+    ]
 
 pub returns : goal.returns
 returns c =
-    let l = c.loop-j in
-    let g = lent c.args.sizes.now [] in
-    ⊎_elim
-    (λ e. l.invariant.0 ∙ rw e (behind-none g _ _ (omega arith) ∙ sym (behind-none g _ _ (omega arith))))
-    (λ (h : c.args.first ≤ l.j). let e : l.j ≡ c.args.first = omega arith in rw e at l.invariant.0)
-    l.invariant.2
+    let e = behind-none (lent c.args.sizes.now []) c.args.player c.loop-j.j (omega arith) in
+    let i = rw e at c.loop-j.invariant in
+    omega arith

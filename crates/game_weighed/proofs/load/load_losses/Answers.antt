@@ -1,6 +1,6 @@
 -- `load_losses` meets its contract: the tables of the indices passed stand in the array. Assumes nothing.
 use mathlib.Core.List.{List, []}
-use mathlib.Core.Path.{◌≡◌, refl, ap, ◌∙◌}
+use mathlib.Core.Path.{◌≡◌, ap, ◌∙◌}
 use Prim.Native.Nat.{ℕ, ◌+◌, ◌-◌, ◌*◌, ◌≤◌, ◌<◌}
 use native.Mathlib.Omega.{arith}
 use borrow.Author.Rules.{rules}
@@ -14,7 +14,7 @@ use Rattle.game_weighed.proofs.Levels.{behind-few, stand-alike}
 use Rattle.game_weighed.proofs.Writing.{begin_inside, load_turn, load_player, load_from}
 use Rattle.game_weighed.specs.Levels.{behind, losses_begin}
 use Rattle.game_weighed.proofs.load.load_losses.Goals as goal
-use Rattle.game_weighed.proofs.load.load_losses.Goals.{Start, After-wide-owner, After-wide}
+use Rattle.game_weighed.proofs.load.load_losses.Goals.{Start, After-from-owner, After-from}
 
 -- what is known of the game
 module _ (s : Start) where
@@ -25,9 +25,9 @@ module _ (s : Start) where
   yes = accepted g s.requires.1.1.grid.accepted
 
 -- what is known once the owner is read
-module _ (c : After-wide-owner) where
+module _ (c : After-from-owner) where
   abbrev start : Start
-  start = (goal.at.After-wide-owner c).Start
+  start = (goal.at.After-from-owner c).Start
 
   abbrev h : ℕ
   h = c.loop-h.h
@@ -38,32 +38,32 @@ module _ (c : After-wide-owner) where
   inside : h < num_indices (g start)
   inside = omega (arith, c.requires.0)
 
-  owner_is : c.wide-owner.result ≡ player
-  owner_is = c.wide-owner.ensures ∙ c.requires.1.1.owned h inside
+  owner_is : c.from-owner.result ≡ player
+  owner_is = c.from-owner.ensures ∙ c.requires.1.1.owned h inside
 
   below : player < num_blocks (g start)
   below = (block_spans c.args.sizes.now h inside).0
 
-  owner_low : c.wide-owner.result < 6
+  owner_low : c.from-owner.result < 6
   owner_low = omega (arith, owner_is, below, (yes start).few_blocks)
 
-  counted : c.wide-owner.result * c.args.count ≤ length c.args.losses.now
-  counted = load_player (g start) c.args.losses.now c.requires.1.1.table h inside c.wide-owner.result
+  counted : c.from-owner.result * c.args.count ≤ length c.args.losses.now
+  counted = load_player (g start) c.args.losses.now c.requires.1.1.table h inside c.from-owner.result
       c.args.count owner_is c.requires.1.1.is_count
 
 -- and the first index
-module _ (c : After-wide) where
-  abbrev owned : After-wide-owner
-  owned = (goal.at.After-wide c).After-wide-owner
+module _ (c : After-from) where
+  abbrev owned : After-from-owner
+  owned = (goal.at.After-from c).After-from-owner
 
   abbrev begun : Start
-  begun = (goal.at.After-wide c).Start
+  begun = (goal.at.After-from c).Start
 
   abbrev owner : ℕ
   owner = player owned
 
   abbrev rest : ℕ
-  rest = at c.args.rests.now c.wide-owner.result
+  rest = at c.args.rests.now c.from-owner.result
 
   rest-is : rest ≡ behind (g begun) owner 0
   rest-is =
@@ -71,26 +71,26 @@ module _ (c : After-wide) where
       ap (at c.args.rests.now) (owner_is owned)
       ∙ (rw z at (c.requires.1.1.rested 0 owner (omega arith) (omega (arith, below owned, (yes begun).few_blocks))))
 
-  first-is : c.wide.result ≡ first_index (g begun) owner
-  first-is = c.wide.ensures
+  first-is : c.from.result ≡ first_index (g begun) owner
+  first-is = c.from.ensures
       ∙ ap (at c.args.firsts.now) (owner_is owned)
       ∙ c.requires.1.1.grid.first owner (below owned)
 
-  spans : c.wide.result ≤ h owned
+  spans : c.from.result ≤ h owned
   spans = omega (arith, first-is, (block_spans c.args.sizes.now (h owned) (inside owned)).1)
 
-  abbrev from : ℕ
-  from = c.wide-owner.result * c.args.count + (h owned - c.wide.result) * rest
+  abbrev begin : ℕ
+  begin = c.from-owner.result * c.args.count + (h owned - c.from.result) * rest
 
-  from_is : from ≡ losses_begin (g begun) (h owned)
-  from_is = load_from (g begun) c.args.losses.now c.requires.1.1.table (h owned) (inside owned)
-      c.wide-owner.result c.args.count (owner_is owned) c.requires.1.1.is_count c.wide.result rest
+  begins : begin ≡ losses_begin (g begun) (h owned)
+  begins = load_from (g begun) c.args.losses.now c.requires.1.1.table (h owned) (inside owned)
+      c.from-owner.result c.args.count (owner_is owned) c.requires.1.1.is_count c.from.result rest
       first-is rest-is
 
-  within : from + rest ≤ length c.args.losses.now
+  within : begin + rest ≤ length c.args.losses.now
   within = omega (
     arith,
-    from_is,
+    begins,
     rest-is,
     begin_inside (g begun) c.args.losses.now c.requires.1.1.table (h owned) (inside owned),
   )
@@ -100,24 +100,21 @@ module _ (c : After-wide) where
 
   -- the part of the losses that is lent
   abbrev part : List ℕ
-  part = take (from + rest - from) (drop from c.args.losses.now)
+  part = take (begin + rest - begin) (drop begin c.args.losses.now)
 
   part_long : length part ≡ behind (g begun) owner 0
   part_long =
-      let z : from + rest - from ≡ rest = omega arith in
+      let z : begin + rest - begin ≡ rest = omega arith in
       rw z
-      (length-take-le rest (drop from c.args.losses.now)
-      (omega (arith, length-drop from c.args.losses.now, within))
+      (length-take-le rest (drop begin c.args.losses.now)
+      (omega (arith, length-drop begin c.args.losses.now, within))
       ∙ rest-is)
 
   part_at : (e : ℕ) → e < length part → at part e ≡ at c.args.losses.now (losses_begin (g begun) (h owned) + e)
   part_at e b =
-      get_or-take (from + rest - from) (drop from c.args.losses.now) e 0 (omega (arith, part_long, rest-is))
-      ∙ get_or-drop from c.args.losses.now e 0
-      ∙ ap (λ (n : ℕ). at c.args.losses.now (n + e)) from_is
-
-pub loop-h-init : goal.loop-h-init
-loop-h-init c = ((λ y h e b. absurd (omega arith)), omega arith, refl)
+      get_or-take (begin + rest - begin) (drop begin c.args.losses.now) e 0 (omega (arith, part_long, rest-is))
+      ∙ get_or-drop begin c.args.losses.now e 0
+      ∙ ap (λ (n : ℕ). at c.args.losses.now (n + e)) begins
 
 pub bounds-owners-h : goal.bounds-owners-h
 bounds-owners-h c = omega (
@@ -126,17 +123,14 @@ bounds-owners-h c = omega (
   c.requires.0,
 )
 
-pub offset_bounds-rests-owner : goal.offset_bounds-rests-owner
-offset_bounds-rests-owner c = omega (arith, owner_low c)
-
 pub bounds-rests-owner : goal.bounds-rests-owner
-bounds-rests-owner c = omega (arith, owner_low (goal.at.bounds-rests-owner c).After-wide-owner)
+bounds-rests-owner c = omega (arith, owner_low (goal.at.bounds-rests-owner c).After-from-owner)
 
 pub overflow_mul-at : goal.overflow_mul-at
-overflow_mul-at c = omega (arith, counted (goal.at.overflow_mul-at c).After-wide-owner)
+overflow_mul-at c = omega (arith, counted (goal.at.overflow_mul-at c).After-from-owner)
 
 pub bounds-firsts-owner : goal.bounds-firsts-owner
-bounds-firsts-owner c = omega (arith, owner_low (goal.at.bounds-firsts-owner c).After-wide-owner)
+bounds-firsts-owner c = omega (arith, owner_low (goal.at.bounds-firsts-owner c).After-from-owner)
 
 pub overflow_sub-at : goal.overflow_sub-at
 overflow_sub-at c = omega (arith, spans c)
@@ -148,45 +142,42 @@ pub overflow_add-at : goal.overflow_add-at
 overflow_add-at c = omega (arith, within c)
 
 pub overflow_mul-h : goal.overflow_mul-h
-overflow_mul-h c = omega (arith, few-indices (goal.at.overflow_mul-h c).After-wide)
+overflow_mul-h c = omega (arith, few-indices (goal.at.overflow_mul-h c).After-from)
 
 pub overflow_add-at-in-loop-h : goal.overflow_add-at-in-loop-h
-overflow_add-at-in-loop-h c = omega (arith, within (goal.at.overflow_add-at-in-loop-h c).After-wide)
+overflow_add-at-in-loop-h c = omega (arith, within (goal.at.overflow_add-at-in-loop-h c).After-from)
 
 pub offset_bounds-losses-at : goal.offset_bounds-losses-at
-offset_bounds-losses-at c = omega (arith, within (goal.at.offset_bounds-losses-at c).After-wide)
+offset_bounds-losses-at c = omega (arith, within (goal.at.offset_bounds-losses-at c).After-from)
 
 pub slice_bounds-load_table-end : goal.slice_bounds-load_table-end
-slice_bounds-load_table-end c = let w = within (goal.at.slice_bounds-load_table-end c).After-wide in search rules
+slice_bounds-load_table-end c = let w = within (goal.at.slice_bounds-load_table-end c).After-from in search rules
 
 pub load_table-requires : goal.load_table-requires
 load_table-requires c =
-    let w = (goal.at.load_table-requires c).After-wide in
+    let w = (goal.at.load_table-requires c).After-from in
     let s = (goal.at.load_table-requires c).Start in
     rw (part_long w) (omega (
       arith,
       few-indices w,
-      behind-few (g s) (owner w) (yes s) (below (goal.at.load_table-requires c).After-wide-owner) 0,
+      behind-few (g s) (owner w) (yes s) (below (goal.at.load_table-requires c).After-from-owner) 0,
       c.requires.1.1.whole,
     ))
 
 pub loop-h-preserved : goal.loop-h-preserved
 loop-h-preserved c =
-    let w = (goal.at.loop-h-preserved c).After-wide in
+    let w = (goal.at.loop-h-preserved c).After-from in
     let s = (goal.at.loop-h-preserved c).Start in
     let l = c.loop-h in
     let ss = c.args.sizes.now in
-    let ds = c.requires.1.0 in (
-      (λ y. stand-alike ss ds [] c.args.losses.now y 0 (l.h + 1) c.load_table.new.levels
-          (load_turn (g s) (yes s) c.args.losses.now y l.h (inside (goal.at.loop-h-preserved c).After-wide-owner) l.levels _
-          (part w) (length (part w)) (part_long w) (part_at w) c.load_table.ensures
-          (stand-alike ss [] ds c.args.losses.now y 0 l.h l.levels (l.invariant.0 y)))),
-      omega arith,
-      omega arith,
-    )
+    let ds = c.requires.1.0 in
+    λ y. stand-alike ss ds [] c.args.losses.now y 0 (l.h + 1) c.load_table.new.levels
+    (load_turn (g s) (yes s) c.args.losses.now y l.h (inside (goal.at.loop-h-preserved c).After-from-owner) l.levels _
+    (part w) (length (part w)) (part_long w) (part_at w) c.load_table.ensures
+    (stand-alike ss [] ds c.args.losses.now y 0 l.h l.levels (l.invariant y)))
 
 pub returns : goal.returns
 returns c =
     let l = c.loop-h in
     let e : l.h ≡ sum c.args.sizes.now = omega (arith, c.requires.0) in
-    λ y i b. let z : i ≡ 0 = omega arith in rw z (rw e at (l.invariant.0 y))
+    λ y i b. let z : i ≡ 0 = omega arith in rw z (rw e at (l.invariant y))

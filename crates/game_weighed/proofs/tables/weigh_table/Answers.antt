@@ -1,10 +1,10 @@
 -- `weigh_table` meets its contract: the numbers passed are weighed. Assumes nothing.
-use mathlib.Core.Path.{◌≡◌, refl, ◌∙◌}
+use mathlib.Core.Path.{◌∙◌}
 use Prim.Native.Nat.{◌+◌, ◌<◌}
 use native.Mathlib.Omega.{arith}
 use borrow.Author.Rules.{rules}
 use lib.ListN.{length, length-set}
-use Rattle.game_weighed.proofs.Writing.{written_start, written_turn, number-before, lent-sum, lent-apart}
+use Rattle.game_weighed.proofs.Writing.{written_turn, number-before, lent-sum, lent-apart}
 use Rattle.game_weighed.proofs.tables.weigh_table.Goals as goal
 use Rattle.game_weighed.proofs.tables.weigh_table.Goals.{In-loop-e}
 
@@ -16,18 +16,9 @@ before c =
     omega (
       arith,
       number-before c.args.mix.now c.args.levels.now c.args.from c.args.to c.args.rest c.requires
-          l.levels l.e (omega arith) _ l.invariant.0 l.invariant.2 0 (omega (arith, c.requires.two)),
+          l.levels l.e (omega arith) _ l.invariant.0 l.invariant.1 0 (omega (arith, c.requires.two)),
       c.requires.inside,
     )
-
-pub loop-e-init : goal.loop-e-init
-loop-e-init c = (written_start c.args.levels.now c.args.to _, omega arith, refl)
-
-pub overflow_add-at : goal.overflow_add-at
-overflow_add-at c = omega (arith, before c)
-
-pub offset_bounds-levels-at : goal.offset_bounds-levels-at
-offset_bounds-levels-at c = omega (arith, before c)
 
 pub slice_bounds-dot_apart-count : goal.slice_bounds-dot_apart-count
 slice_bounds-dot_apart-count c = omega (arith, before c)
@@ -35,17 +26,11 @@ slice_bounds-dot_apart-count c = omega (arith, before c)
 pub slice_bounds-dot_apart-start : goal.slice_bounds-dot_apart-start
 slice_bounds-dot_apart-start c = let h = before c in search rules
 
-pub dot_apart-number-requires : goal.dot_apart-number-requires
-dot_apart-number-requires c =
+pub dot_apart-requires : goal.dot_apart-requires
+dot_apart-requires c =
     let l = c.loop-e in
     lent-apart c.args.mix.now c.args.levels.now c.args.from c.args.to c.args.rest c.requires
-    l.levels l.e (omega arith) _ l.invariant.0 l.invariant.2
-
-pub overflow_add-levels : goal.overflow_add-levels
-overflow_add-levels c = omega (arith, c.requires.inside)
-
-pub offset_bounds-levels-to : goal.offset_bounds-levels-to
-offset_bounds-levels-to c = omega (arith, c.requires.inside)
+    l.levels l.e (omega arith) _ l.invariant.0 l.invariant.1
 
 pub bounds-levels-to : goal.bounds-levels-to
 bounds-levels-to c = omega (arith, c.requires.inside)
@@ -54,16 +39,9 @@ pub loop-e-preserved : goal.loop-e-preserved
 loop-e-preserved c =
     let l = c.loop-e in
     let a = c.args in
-    let is = c.dot_apart-number.ensures
+    let is = c.dot_apart.ensures
     ∙ lent-sum a.mix.now a.levels.now a.from a.to a.rest c.requires l.levels l.e (omega arith) _
-    l.invariant.0 l.invariant.2 in (
+    l.invariant.0 l.invariant.1 in (
       written_turn a.levels.now l.levels a.to l.e _ _ (omega (arith, c.requires.inside)) is l.invariant.0,
-      omega arith,
-      simp length-set l.invariant.2,
+      simp length-set l.invariant.1,
     )
-
-pub returns : goal.returns
-returns c =
-    let l = c.loop-e in
-    let e : l.e ≡ c.args.rest = omega arith in
-    rw e at l.invariant.0

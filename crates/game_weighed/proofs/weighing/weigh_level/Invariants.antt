@@ -1,14 +1,7 @@
 -- `weigh_level` meets its contract: the tables of the indices passed are written. Assumes nothing.
-use mathlib.Core.Path.{◌≡◌}
-use Prim.Native.Nat.{◌-◌, ◌≤◌}
-use lib.ListN.{length}
 use Rattle.game_weighed.specs.Levels.{LevelWeighed}
 use Rattle.game_weighed.proofs.weighing.weigh_level.Given as goal
 
 abbrev pub invariant-loop-h : goal.invariant-loop-h
 invariant-loop-h l =
-    LevelWeighed l.owners l.rests l.mix l.level l.h l.initial.levels l.levels × (l.h ≤ l.indices)
-    × (length l.levels ≡ length l.initial.levels)
-
-abbrev pub decreases-loop-h : goal.decreases-loop-h
-decreases-loop-h l = l.indices - l.h
+    LevelWeighed l.owners l.rests l.mix l.level l.h l.initial.levels l.levels

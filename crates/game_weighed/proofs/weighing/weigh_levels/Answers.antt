@@ -1,7 +1,7 @@
 -- `weigh_levels` meets its contract: the levels up to the one reached stand in the array, for whatever losses.
 -- Assumes nothing.
 use mathlib.Core.List.{[]}
-use mathlib.Core.Path.{◌≡◌, refl, sym, ◌∙◌, subst}
+use mathlib.Core.Path.{◌≡◌, sym, ◌∙◌, subst}
 use Prim.Native.Nat.{ℕ, ◌+◌, ◌-◌, ◌≤◌}
 use native.Mathlib.Omega.{arith}
 use borrow.Author.Rules.{rules}
@@ -16,7 +16,7 @@ use Rattle.game_weighed.proofs.Levels.{stand-to-alike}
 use Rattle.game_weighed.proofs.NextLevel.{level_ready, level_stands}
 use Rattle.game_weighed.specs.Levels.{LevelToWeigh, LevelWeighed}
 use Rattle.game_weighed.proofs.weighing.weigh_levels.Goals as goal
-use Rattle.game_weighed.proofs.weighing.weigh_levels.Goals.{Start, After-wide}
+use Rattle.game_weighed.proofs.weighing.weigh_levels.Goals.{Start, After-from}
 
 -- what is known of the game
 module _ (s : Start) where
@@ -30,41 +30,28 @@ module _ (s : Start) where
   long = point-length g yes s.args.point.now s.requires.1.2.point.is_point
 
 -- what is known of the block of a turn
-module _ (c : After-wide) where
+module _ (c : After-from) where
   abbrev start : Start
-  start = (goal.at.After-wide c).Start
+  start = (goal.at.After-from c).Start
 
   abbrev k : ℕ
   k = c.loop-level.level
 
-  first-is : c.wide-from.result ≡ first_index (g start) k
-  first-is = c.wide-from.ensures
-      ∙ c.requires.1.2.point.grid.first k (omega (arith, c.loop-level.invariant.3))
+  first-is : c.from-from.result ≡ first_index (g start) k
+  first-is = c.from-from.ensures
+      ∙ c.requires.1.2.point.grid.first k (omega arith)
 
-  inside : first_index (g start) k + c.wide.result ≤ length c.args.point.now
-  inside = omega (arith, c.wide.ensures, long start, block-fits c.args.sizes.now k)
+  inside : first_index (g start) k + c.from.result ≤ length c.args.point.now
+  inside = omega (arith, c.from.ensures, long start, block-fits c.args.sizes.now k)
 
-  lent_is : take (c.wide-from.result + c.wide.result - c.wide-from.result)
-      (drop c.wide-from.result c.args.point.now)
+  lent_is : take (c.from-from.result + c.from.result - c.from-from.result)
+      (drop c.from-from.result c.args.point.now)
       ≡ mix (g start) c.args.point.now k
-  lent_is = lent-mix c.args.sizes.now c.args.point.now k c.wide-from.result
-      c.wide.result first-is c.wide.ensures (sym (long start))
-
-pub loop-level-init : goal.loop-level-init
-loop-level-init c = ((λ t s. s), omega arith, refl, refl, refl)
+  lent_is = lent-mix c.args.sizes.now c.args.point.now k c.from-from.result
+      c.from.result first-is c.from.ensures (sym (long start))
 
 pub bounds-firsts-level : goal.bounds-firsts-level
-bounds-firsts-level c =
-    omega (arith, (yes (goal.at.bounds-firsts-level c).Start).few_blocks, c.loop-level.invariant.3)
-
-pub bounds-sizes-level : goal.bounds-sizes-level
-bounds-sizes-level c = omega (arith, c.loop-level.invariant.3)
-
-pub overflow_add-end : goal.overflow_add-end
-overflow_add-end c = omega (arith, first-is c, inside c)
-
-pub offset_bounds-point-from : goal.offset_bounds-point-from
-offset_bounds-point-from c = omega (arith, first-is c, inside c)
+bounds-firsts-level c = omega (arith, (yes (goal.at.bounds-firsts-level c).Start).few_blocks)
 
 pub slice_bounds-weigh_level-end : goal.slice_bounds-weigh_level-end
 slice_bounds-weigh_level-end c = let e = first-is c in let i = inside c in search rules
@@ -79,10 +66,10 @@ weigh_level-requires c =
     let ds = c.requires.1.0 in
     let t = c.requires.1.1 in
     let stand = stand-to-alike ss [] ds t a.point.now l.level l.levels
-    (l.invariant.0 t (stand-to-alike ss ds [] t a.point.now a.first a.levels.now x.stand)) in
+    (l.invariant t (stand-to-alike ss ds [] t a.point.now a.first a.levels.now x.stand)) in
     let ready = level_ready (g s) a.firsts.now a.owners.now a.rests.now t a.point.now l.level
-    a.first l.levels a.levels.now x l.invariant.2 (omega (arith, l.invariant.3)) stand in
-    rw (lent_is (goal.at.weigh_level-requires c).After-wide) (subst
+    a.first l.levels a.levels.now x (omega arith) (omega arith) stand in
+    rw (lent_is (goal.at.weigh_level-requires c).After-from) (subst
     (λ (n : ℕ).
     LevelToWeigh a.owners.now a.rests.now (mix (g s) a.point.now l.level) l.level n l.levels)
     (sym (long s)) ready)
@@ -96,24 +83,12 @@ loop-level-preserved c =
     let ss = a.sizes.now in
     let ds = c.requires.1.0 in
     let new = c.weigh_level.new.levels in
-    let done = rw (lent_is (goal.at.loop-level-preserved c).After-wide) at c.weigh_level.ensures in
+    let done = rw (lent_is (goal.at.loop-level-preserved c).After-from) at c.weigh_level.ensures in
     let weighed = subst
     (λ (n : ℕ).
     LevelWeighed a.owners.now a.rests.now (mix (g s) a.point.now l.level) l.level n l.levels new)
-    (long s) done in (
-      (λ t b. stand-to-alike ss ds [] t a.point.now (l.level + 1) new
-          (level_stands (g s) a.firsts.now a.owners.now a.rests.now c.requires.1.1 a.point.now
-          l.level a.first l.levels a.levels.now x l.invariant.2 (omega (arith, l.invariant.3)) t _
-          (stand-to-alike ss [] ds t a.point.now l.level l.levels (l.invariant.0 t b)) weighed)),
-      omega arith,
-      omega arith,
-      l.invariant.3,
-      l.invariant.4,
-    )
-
-pub returns : goal.returns
-returns c =
-    let l = c.loop-level in
-    let e : l.level ≡ length c.args.sizes.now - 1 =
-    omega (arith, l.invariant.3) in
-    λ t b. rw e at (l.invariant.0 t b)
+    (long s) done in
+    λ t b. stand-to-alike ss ds [] t a.point.now (l.level + 1) new
+    (level_stands (g s) a.firsts.now a.owners.now a.rests.now c.requires.1.1 a.point.now
+    l.level a.first l.levels a.levels.now x (omega arith) (omega arith) t _
+    (stand-to-alike ss [] ds t a.point.now l.level l.levels (l.invariant t b)) weighed)
