@@ -1,6 +1,5 @@
 // The lines of what a call answers, and of a walk.
 use case_lines::{show, show_bytes, show_number, show_text, show_words};
-use end_kinds::kind_number;
 use std::io;
 use std::io::Print;
 use walk_calls::Told;
@@ -109,7 +108,7 @@ pub fn show_told(rt: &impl Print, told: Told) -> io::Result<()> {
             block,
             vertices,
         } => {
-            show(rt, b"told end of kind ", kind_number(kind) as u64)?;
+            show(rt, b"told end of kind ", u8::from(kind) as u64)?;
             show(rt, b"told block ", block as u64)?;
             show(rt, b"told vertices ", vertices as u64)?;
         }

@@ -5,7 +5,6 @@ ghost use Rattle.grid_points.specs.Grid.{lent};
 ghost use Rattle.refinement.specs.Answer.{answer_left, labels_left, lent_game, refine_answer};
 ghost use Rattle.exports.specs.Refine.{level_facts, refined_facts};
 
-use end_kinds::kind_number;
 use refinement::{Level, Refined};
 
 // The facts of a level to the front of their buffer.
@@ -16,7 +15,7 @@ fn put_level(level: Level, facts: &mut [u64])
     let kind = level.kind;
     facts[0] = level.places;
     facts[1] = level.labels_read;
-    facts[2] = kind_number(kind) as u64;
+    facts[2] = u8::from(kind) as u64;
     facts[3] = level.block as u64;
     facts[4] = level.vertices as u64;
 }

@@ -7,7 +7,7 @@ use Rattle.exports.proofs.refine_calls.put_level.Goals as goal
 
 pub returns : goal.returns
 returns c =
-    rw c.kind_number.ensures.0 (five _ _ _ _ _ c.args.facts.now
+    rw c.from.ensures.0 (five _ _ _ _ _ c.args.facts.now
     c.requires)
 
 pub bounds-facts-1 : goal.bounds-facts-1
