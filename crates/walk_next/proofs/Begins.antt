@@ -6,7 +6,6 @@ use mathlib.Core.Path.{◌≡◌, sym, ◌∙◌}
 use Prim.Native.Nat.{ℕ, pred, ◌≤◌, ◌<◌}
 use borrow.Author.Tests.{le-leb, leb-true}
 use lib.Dec.{leb}
-use lib.ListN.{length}
 use native.Mathlib.Omega.{arith}
 use Rattle.combinatorics.proofs.Basics.{absurd_bool, and_both, and_left, and_right, before_or_not, false_of}
 use Rattle.combinatorics.proofs.Basics.{true_or_false}
@@ -62,11 +61,10 @@ module _ (g : GridStruct) (w : WalkStruct) (labels : List ℕ) (made : IsMade g)
       (false_of _ (λ h. no-empty (table_on g w labels) ok.has_start.some_block
       (rw (not_held (shape g) w.present f) at h)))
 
-  pub kept_rightly : holds_numbers g.indices w.present ≡ true → length w.present.first ≡ 16 → length
-      w.present.order ≡ 16
-      → counts_in_range (shape g) w.places w.labels_read ≡ true → (n : ℕ) → n ≡ pred w.present.count →
-      CanStand g w labels w.present.first w.present.order n
-  kept_rightly t fl ol range n is =
+  pub kept_rightly : holds_numbers g.indices w.present ≡ true
+      → counts_in_range (shape g) w.places w.labels_read ≡ true → (n : ℕ) → n ≡ pred w.present.count
+      → CanStand g w labels n
+  kept_rightly t range n is =
       let h : holds_place (shape g) w.present ≡ true = rw (← (made-indices g made)) t in
       let k = held-parts (shape g) w.present h in
       let a = leb 1 w.places in let b = leb w.places (bound (shape g)) in let c = leb 1 w.labels_read in
@@ -76,8 +74,6 @@ module _ (g : GridStruct) (w : WalkStruct) (labels : List ℕ) (made : IsMade g)
         made = made;
         asked = asked;
         few = omega (arith, is, k.0, k.1);
-        first_long = fl;
-        order_long = ol;
         present = held (shape g) w.present h ∙ rw (is, made-indices g made);
         count = omega (arith, is, k.0);
         some = leb-true 1 _ (and_left a b ab);

@@ -46,6 +46,7 @@ use Rattle.rules.specs.Ready.{Ready}
 use Rattle.rules.proofs.Range.{index_below}
 use Rattle.rules.proofs.WaysRound.{source-from}
 use Rattle.rules.specs.Moves.{After, State, ends_at_facet, ends_at_place, goes, make_move, source_in}
+use Rattle.rules.specs.declared.Round.{Round}
 use Rattle.trail.specs.Change.{ByRule, change}
 use Rattle.walks.proofs.Moved.{calls_hold}
 use Rattle.walks.specs.Kept.{kept_points}
@@ -99,7 +100,7 @@ module _ {g : GridStruct} {w : WalkStruct} {labels : List ℕ} {held : Held} {n 
   m_is = made-indices g S.made
 
   pub long-o : length o ≡ n
-  long-o = length-take n held.order ∙ omega (arith, S.order_long, S.few)
+  long-o = length-take n held.order ∙ omega (arith, held.order_long, S.few)
 
   -- the label that is not yet known is that of the spare point
   pub only-unknown : (j : ℕ) → j ≤ n → label p (get_or s j []) ≡ 0 → j ≡ point
@@ -150,7 +151,7 @@ module _ {g : GridStruct} {w : WalkStruct} {labels : List ℕ} {held : Held} {n 
     lent rule = record {
       round = N.0;
       order_is = refl;
-      first_long = S.first_long;
+      first_long = held.first_long;
       first_at = λ k l. sym (get_or-take g.indices held.first k 0 (omega (arith, m_is)));
       list_long = S.list_long;
       list_at = S.list_at;
@@ -204,7 +205,7 @@ module _ {g : GridStruct} {w : WalkStruct} {labels : List ℕ} {held : Held} {n 
       a = state_as rule
 
       can_try : CanTry a
-      can_try = record { short = λ e z. let f = R.fits.moves e z in (f.0, f.1); first_long = S.first_long }
+      can_try = record { short = λ e z. (R.fits.moves e z).0 }
 
       pub can_move : CanStep a × CanTry a × (g.indices ≤ 16)
       can_move = (
@@ -219,7 +220,7 @@ module _ {g : GridStruct} {w : WalkStruct} {labels : List ℕ} {held : Held} {n 
       can_put : (from : ℕ) → from ≤ n → CanPut a g.indices from 256
       can_put from l = record {
         below = N.1.backward;
-        first_length = S.first_long;
+        first_length = held.first_long;
         points = rw (ap length refl) (ready-point (full ok y o S.place) (describes ok y o S.place a (lent rule))
             (length o) (omega arith));
         short = omega (arith, m_is, ok.has_start.sixteen_indices);
@@ -328,7 +329,7 @@ module _ {g : GridStruct} {w : WalkStruct} {labels : List ℕ} {held : Held} {n 
           let b = (calls_hold walk labels).rule (rule_of p walk.present (kept_by q e)) (rw z) in
           let c : ByRule (change p walk.present (kept_by q e)) (rule_of p walk.present (kept_by q e)) = rw z at b in
           let few = ok.has_start.sixteen_indices in
-          sym (rule-made (lent rule) R.ready N.below.backward outside e x)
+          sym (rule-made (lent rule) R.ready N.1.backward outside e x)
           ∙ rule_told p walk.present (kept_by q e)
           (mask_t p few _ t (λ k l. rw S.present (masks.0 k l)))
           (mask_t p few _ e.T (λ k l. f.3 k l ∙ ap (λ (r : List ℕ). is_in eqb k r)

@@ -55,21 +55,18 @@ pub record Standing (g : GridStruct) (w : WalkStruct) (labels : List ℕ) (held 
   pub made : IsMade g
   pub asked : first_no (table_questions (table_on g w labels)) ≡ 0
   pub few : n ≤ 15
-  pub first_long : length held.first ≡ 16
   pub list_long : length held.coefficients ≡ 16
-  pub order_long : length held.order ≡ 16
   pub marks_long : length held.marks ≡ 16
   pub present : place_of (shape g) w.present ≡ points_kept g held.first held.order n
   pub place : is_place (table_on g w labels) (points_kept g held.first held.order n) ≡ true
   pub in_t : (k : ℕ) → k < 16 → bit t k ≡ is_in eqb k (take n held.order)
   pub in_u : (k : ℕ) → k < 16 → bit u k ≡ is_in eqb k (zero_outside (shape g) (take n held.order) (take g.indices held.first))
-  pub list_at : (k : ℕ) → k < num_indices (shape g) → at held.coefficients k ≡ at
-      (coefficients (table_on g w labels) (take g.indices held.first)) k
+  pub list_at : (k : ℕ) → k < num_indices (shape g)
+      → at held.coefficients k ≡ at (coefficients (table_on g w labels) (take g.indices held.first)) k
   pub low : point ≤ n
   pub spare : Spare (table_on g w labels) (points_kept g held.first held.order n) (take n held.order) point
   pub unknown_is : unknown ≡ eqb (label (table_on g w labels) (get_or (points_kept g held.first held.order n) point [])) 0
   pub marked : (j : ℕ) → j ≤ n
-      → at held.marks j ≡ mark_of (table_on g w labels) (get_or (points_kept g held.first held.order n) j []) + cond
-      (unknown && eqb j point)
-      1 0
+      → at held.marks j
+      ≡ mark_of (table_on g w labels) (get_or (points_kept g held.first held.order n) j []) + cond (unknown && eqb j point) 1 0
   pub counted : Counted (walk_on (shape g) w) labels

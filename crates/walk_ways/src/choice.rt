@@ -14,13 +14,9 @@ use walk_places::{Place, Walk, none, same_place};
 fn leads_back(way: Move, before: Place) -> bool
     ensures { (result ≡ leads_back way before) × (length before.order ≡ 16) }
 {
-    let leads = way.leads;
-    let place = way.place;
-    let same = same_place(place, before);
-    match leads {
-        Leads::Onto(_) => same,
-        Leads::PlaceEnd(_) => false,
-        Leads::FacetEnd(_) => false,
+    match way.leads {
+        Leads::Onto(_) => same_place(way.place, before),
+        Leads::PlaceEnd(_) | Leads::FacetEnd(_) => false,
     }
 }
 
@@ -39,9 +35,7 @@ pub fn from_start(
     requires round_of { IsRoundOf g round.now }
     ensures { result ≡ next_in g w labels.now }
 {
-    let before = w.before;
-    let nowhere = none();
-    if !same_place(before, nowhere) {
+    if !same_place(w.before, none()) {
         return refused(20);
     }
     if unknown {
@@ -76,8 +70,6 @@ pub fn from_other(
     requires round_of { IsRoundOf g round.now }
     ensures { result ≡ next_in g w labels.now }
 {
-    let before = w.before;
-    let m = g.indices;
     let leaving = Status {
         rule: 6,
         count: n,
@@ -85,26 +77,20 @@ pub fn from_other(
         u,
         active: point,
     };
-    let staying = Status {
-        rule: 1,
-        count: n,
-        t,
-        u,
-        active: point,
-    };
-    let a = way(round, held, m, leaving);
-    if leads_back(a, before) {
+    let staying = Status { rule: 1, ..leaving };
+    let a = way(round, held, g.indices, leaving);
+    if leads_back(a, w.before) {
         if unknown {
             return refused(16);
         }
-        let on = way(round, held, m, staying);
+        let on = way(round, held, g.indices, staying);
         return told(g, round, held, staying, on);
     }
     if unknown {
         return refused(20);
     }
-    let b = way(round, held, m, staying);
-    if leads_back(b, before) {
+    let b = way(round, held, g.indices, staying);
+    if leads_back(b, w.before) {
         return told(g, round, held, leaving, a);
     }
     refused(20)

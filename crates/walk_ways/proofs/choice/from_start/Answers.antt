@@ -10,7 +10,7 @@ use Rattle.walk_ways.proofs.choice.from_start.Goals.{After-same_place}
 -- whether there is no place before
 alone : (c : After-same_place)
     → same_place c.args.w.before nowhere ≡ c.same_place.result
-alone c = ap (same_place c.args.w.before) (sym c.none-nowhere.ensures)
+alone c = ap (same_place c.args.w.before) (sym c.none.ensures)
     ∙ sym c.same_place.ensures.0
 
 pub returns-then-not-same_place : goal.returns-then-not-same_place
