@@ -1,18 +1,17 @@
 -- The first tests of a call: the places so far, and how the present place is kept. Assumes nothing.
-use mathlib.Core.Bool.{Bool, true, false, ◌&&◌}
+use mathlib.Core.Bool.{true, false, ◌&&◌}
 use mathlib.Core.List.{List}
 use mathlib.Core.Logic.{inl, inr, ⊎_elim}
-use mathlib.Core.Path.{◌≡◌, refl, sym, ◌∙◌}
-use Prim.Native.Nat.{ℕ, pred, ◌+◌, ◌≤◌, ◌<◌}
-use borrow.Author.Tests.{eq-eqb, le-leb, leb-true, ne_eqb}
+use mathlib.Core.Path.{◌≡◌, sym, ◌∙◌}
+use Prim.Native.Nat.{ℕ, pred, ◌≤◌, ◌<◌}
+use borrow.Author.Tests.{le-leb, leb-true}
 use lib.Dec.{leb}
-use lib.ListN.{length, set, length-set}
-use lib.Seq.{get_or-set_other, get_or-set_same}
+use lib.ListN.{length}
 use native.Mathlib.Omega.{arith}
-use Rattle.combinatorics.proofs.Basics.{absurd_bool, and_both, and_left, and_right, before_or_not, false_of, same_or}
+use Rattle.combinatorics.proofs.Basics.{absurd_bool, and_both, and_left, and_right, before_or_not, false_of}
 use Rattle.combinatorics.proofs.Basics.{true_or_false}
 use Rattle.grid.proofs.Fields.{made-indices}
-use Rattle.grid_points.specs.Grid.{at, bound}
+use Rattle.grid_points.specs.Grid.{bound}
 use Rattle.grid.specs.Made.{IsMade, shape}
 use Rattle.grid.specs.declared.Grid.{Grid as GridStruct}
 use Rattle.place.specs.Questions.{table_questions}
@@ -24,24 +23,9 @@ use Rattle.walks.specs.Next.{next_of, refused}
 use Rattle.walk_ways.proofs.ComesNext.{no-count, no_place, no_read}
 use Rattle.walk_places.proofs.Held.{held, held-parts, not_held}
 use Rattle.walk_next.specs.Standing.{counts_in_range, CanStand}
-use Rattle.walk_next.specs.Choosing.{MarksFilledBy}
 use Rattle.walk_places.specs.Walks.{holds_numbers, holds_place, kept_as, same_place, table_on, walk_on}
 use Rattle.walk_places.specs.declared.Place.{Place}
 use Rattle.walk_places.specs.declared.Walk.{Walk as WalkStruct}
-
-pub fill_no : (marks : List ℕ) (point : ℕ) (unknown : Bool) → unknown ≡ false → length marks ≡ 16 →
-    MarksFilledBy marks point unknown marks
-fill_no marks point unknown e l = record { long = l; each = λ j. rw e (omega arith) }
-
-pub fill_yes : (marks : List ℕ) (point : ℕ) (unknown : Bool) → unknown ≡ true → length marks ≡ 16 → point < 16 →
-    MarksFilledBy marks point unknown (set marks point (at marks point + 1))
-fill_yes marks point unknown e l low = record {
-  long = length-set marks point (at marks point + 1) ∙ l;
-  each = λ j. ⊎_elim (λ (q : j ≡ point). rw (e, q, eq-eqb point point refl)
-      (get_or-set_same marks point (at marks point + 1) 0 (omega arith)))
-      (λ (q : j ≡ point → ⊥). rw (e, ne_eqb j point q)
-      (get_or-set_other marks point j (at marks point + 1) 0 q ∙ omega arith)) (same_or j point);
-}
 
 module _ (g : GridStruct) (w : WalkStruct) (labels : List ℕ) (made : IsMade g)
     (asked : first_no (table_questions (table_on g w labels)) ≡ 0) where
