@@ -56,7 +56,7 @@ pub fn pass_recording(
     };
     let mut from: usize = 0;
     let mut end: usize = 3;
-    let mut at = begun(&held.first, g.indices);
+    let mut at = begun(held, g.indices);
     for visited in 0..budget {
         let s = at.status;
         if let Err(unknown) = look_up(g, binomials, &tails, table, round, held, s) {

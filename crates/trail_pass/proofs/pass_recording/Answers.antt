@@ -41,7 +41,7 @@ loop-visited-init c =
     let a = c.args in
     let w = c.requires.can_pass in
     let start = a.held.now.first in (
-      passes-first a.g w.readable.made a.held.now a.table.now w.accepted w.is_round w.no_coefficients w.no_marks
+      passes-first a.g w.readable.made a.held.now c.begun-at.new.held a.table.now w.accepted w.is_round
           c.begun-at.result c.begun-at.ensures,
       record {
         so_far = so_far_none a.g start a.table.now w.accepted _;

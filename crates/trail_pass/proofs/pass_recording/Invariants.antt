@@ -9,5 +9,5 @@ use Rattle.trail_pass.proofs.pass_recording.Given as goal
 abbrev pub invariant-loop-visited : goal.invariant-loop-visited
 invariant-loop-visited l =
     let s = state_of l.round l.held l.at.status in
-    Passing (problem_in l.g l.initial.held.first l.table) l.visited l.at s
-    × Recording l.g l.initial.held.first l.table l.writes l.initial.trail l.visited s l.trail l.before l.from l.end
+    Passing (problem_in l.g l.fn.held.first l.table) l.visited l.at s
+    × Recording l.g l.fn.held.first l.table l.writes l.initial.trail l.visited s l.trail l.before l.from l.end

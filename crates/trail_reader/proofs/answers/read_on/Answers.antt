@@ -39,7 +39,7 @@ rebuilt-requires c =
         is_round = round.0;
         below = round.1;
         no_coefficients = c.at-held.ensures.1;
-        no_marks = c.at-held.ensures.2;
+        no_marks = c.at-held.ensures.3;
         has_start = subst (λ (s : List ℕ). HasStart (problem_by c.args.g s))
             (sym (taken (goal.at.rebuilt-requires c).After-at-held)) w.has_start;
       };

@@ -22,7 +22,7 @@ pass_recording-passed-requires c =
     let w = c.requires in
     let round = c.round_of-round in record {
       can_pass = can_pass w.readable w.accepted round.result round.ensures.0 round.ensures.1 c.at-held.result
-          c.at-held.ensures;
+          c.at-held.ensures.0;
       has_room_for_trail = λ e. absurd_bool (sym e);
     }
 
@@ -38,7 +38,7 @@ finished : (c : After-pass_recording-passed) → (let a = c.args in
 finished c =
     let w = c.requires in
     let passed = c.pass_recording-passed in
-    finished_from w.readable w.accepted c.at-held.result c.at-held.ensures c.args.budget c.round_of-round.result
+    finished_from w.readable w.accepted c.at-held.result c.at-held.ensures.0 c.args.budget c.round_of-round.result
     passed.new.held passed.result.finish passed.ensures.finished
 
 recorded : (c : After-pass_recording-passed)

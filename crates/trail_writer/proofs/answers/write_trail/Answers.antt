@@ -14,7 +14,7 @@ pub pass_recording-requires : goal.pass_recording-requires
 pass_recording-requires c =
     let w = c.requires in
     let t = c.at-held in record {
-      can_pass = can_pass w.readable w.accepted c.args.round.now w.is_round w.below t.result t.ensures;
+      can_pass = can_pass w.readable w.accepted c.args.round.now w.is_round w.below t.result t.ensures.0;
       has_room_for_trail = λ e. rw (problem-from w.readable w.accepted t.result t.ensures.0) w.fits;
     }
 
@@ -27,7 +27,7 @@ returns c =
     let round = a.round.now in
     ends-again (problem_from a.g a.start.now a.labels.now) a.budget round f.new.held a.trail.now f.new.trail
     f.result.bytes f.result.finish w.ends.6
-    (finished_from w.readable w.accepted t.result t.ensures a.budget round f.new.held f.result.finish
+    (finished_from w.readable w.accepted t.result t.ensures.0 a.budget round f.new.held f.result.finish
     f.ensures.finished)
     (subst
     (λ (p : Problem). Recorded p true a.budget a.trail.now f.new.trail f.result.bytes f.result.finish)
