@@ -43,9 +43,9 @@ module _ {g : GridStruct} {binomials start table : List ℕ} (readable : Readabl
   pub can_pad : (g.indices ≤ length start) × (g.indices ≤ 16)
   can_pad = (omega (arith, start-long), indices-few g readable.made)
 
-  pub problem-from : {held : Held} → held.first ≡ front (take g.indices start) (replicate 16 0)
+  pub problem-from : (held : Held) → held.first ≡ front (take g.indices start) (replicate 16 0)
       → problem_in g held.first table ≡ problem_from g start table
-  problem-from e =
+  problem-from held e =
       let f : take g.indices start ≡ start = rw (← start-long) (take-length start) in
       let h : take g.indices (front start (replicate 16 0)) ≡ start =
       rw (← start-long) (front_taken start (replicate 16 0)) in
@@ -58,9 +58,9 @@ module _ {g : GridStruct} {binomials start table : List ℕ} (readable : Readabl
     readable = readable;
     is_round = is;
     below = below;
-    accepted = rw (problem-from {held} A.0) ok;
-    no_coefficients = A.1.0;
-    no_marks = A.1.1;
+    accepted = rw (problem-from held A.0) ok;
+    no_coefficients = A.1;
+    no_marks = A.2;
   }
 
   -- where it finished
@@ -68,7 +68,7 @@ module _ {g : GridStruct} {binomials start table : List ℕ} (readable : Readabl
       → Finished (problem_in g held.first table) budget round last f
       → Finished (problem_from g start table) budget round last f
   finished_from held A budget round last f F =
-      subst (λ (p : Problem). Finished p budget round last f) (problem-from {held} A.0) F
+      subst (λ (p : Problem). Finished p budget round last f) (problem-from held A.0) F
 
 -- the answer at an end
 module _ (g : GridStruct) (made : IsMade g) (start table : List ℕ) (budget places : ℕ) (kind : Kind) (e : State) (h : ℕ)

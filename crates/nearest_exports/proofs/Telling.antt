@@ -4,17 +4,21 @@ use Rattle.combinatorics.proofs.Basics.{absurd_bool}
 use Rattle.finder.proofs.Numbers.{run-numbers_tell}
 use Rattle.finder.specs.declared.answers.RunAnswer.{RunAnswer}
 use Rattle.nearest.specs.declared.Report.{Report}
-use Rattle.nearest_pass.specs.declared.Nearest.{Nearest}
-use Rattle.nearest_pass.specs.declared.Nearest.TheVariants.{Nothing, Vertex}
+use Rattle.nearest_pass.specs.declared.Vertex.{Vertex}
+use Rattle.std.specs.Prelude.{None, Option, Some, ℕ}
 use Rattle.nearest_exports.specs.Near.{NearNumbersTell, near_facts}
 
-near-tells : (a b : Nearest) → near_facts a ≡ near_facts b → a ≡ b
-near-tells Nothing Nothing e = refl
-near-tells Nothing (Vertex position listed) e = absurd_bool (cc)
-near-tells (Vertex position listed) Nothing e = absurd_bool (cc)
-near-tells (Vertex position listed) (Vertex other count) e = cc
+same_vertex : {p q n m : ℕ} → p ≡ q → n ≡ m
+    → ◌≡◌ {A = Option Vertex} (Some (record { position = p; listed = n })) (Some (record { position = q; listed = m }))
+same_vertex e f = cc
 
-same_report : (x y : RunAnswer) (m n : Nearest) → x ≡ y → m ≡ n
+near-tells : (a b : Option Vertex) → near_facts a ≡ near_facts b → a ≡ b
+near-tells None None e = refl
+near-tells None (Some v) e = absurd_bool (cc)
+near-tells (Some v) None e = absurd_bool (cc)
+near-tells (Some v) (Some w) e = same_vertex (cc) (cc)
+
+same_report : (x y : RunAnswer) (m n : Option Vertex) → x ≡ y → m ≡ n
     → ◌≡◌ {A = Report} (record { run = x; nearest = m }) (record { run = y; nearest = n })
 same_report x y m n e f = cc
 

@@ -9,16 +9,16 @@ ghost use Rattle.nearest_exports.specs.Near.{near_facts};
 ghost use Rattle.finder.specs.Numbers.{run_facts, run_number};
 
 use finder::put_answer;
-use nearest::Nearest;
+use nearest::Vertex;
 
 // The position and the count to the front of their buffer, where a vertex is reported.
-fn put_nearest(found: Nearest, near: &mut [u64])
+fn put_nearest(found: Option<Vertex>, near: &mut [u64])
     requires { 2 ≤ length near.old }
     ensures { near.new ≡ front (near_facts found) near.old }
 {
-    if let Nearest::Vertex { position, listed } = found {
-        near[0] = position as u64;
-        near[1] = listed as u64;
+    if let Some(vertex) = found {
+        near[0] = vertex.position as u64;
+        near[1] = vertex.listed as u64;
     }
 }
 

@@ -58,9 +58,9 @@ module _ {unit : GridStruct} {divisions losses start buffer : List ℕ}
       ap (λ z. length z.sizes) C.made.made ∙ front_length (shape unit).sizes (replicate 6 0) a.few_blocks in
       omega (arith, sizes, (blocks-range unit C.made).1)
 
-  start_taken : {held : Held} → held.first ≡ front (take unit.indices start) (replicate 16 0)
+  start_taken : (held : Held) → held.first ≡ front (take unit.indices start) (replicate 16 0)
       → take unit.indices held.first ≡ start
-  start_taken e =
+  start_taken held e =
       let f : take unit.indices start ≡ start = rw (← start-long) (take-length start) in
       let h : take unit.indices (front start (replicate 16 0)) ≡ start =
       rw (← start-long) (front_taken start (replicate 16 0)) in
@@ -87,9 +87,9 @@ module _ {unit : GridStruct} {divisions losses start buffer : List ℕ}
     many = made-indices unit C.made;
     is_round = round-alike is;
     below = below;
-    start = rw (start_taken {held} A.0) C.on_grid;
-    no_coefficients = A.1.0;
-    no_marks = A.1.1;
+    start = rw (start_taken held A.0) C.on_grid;
+    no_coefficients = A.1;
+    no_marks = A.2;
   }
 
   module _ (budget : ℕ) (round : Round) (last : Held) where
@@ -102,7 +102,7 @@ module _ {unit : GridStruct} {divisions losses start buffer : List ℕ}
     finished_from held A f F =
         subst
         (λ (v : List ℕ). Finished (run_problem unit divisions losses v) budget round last f)
-        (start_taken {held} A.0) F
+        (start_taken held A.0) F
 
     module _ (kind : Kind) (places h read : ℕ) (e : State)
         (A : Announced p budget kind (first_point_of kind) e h places read) where

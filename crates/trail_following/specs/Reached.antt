@@ -28,6 +28,7 @@ Reaches g start bytes a number order s (Some r) =
 Reaches g start bytes a number order s None = rebuilt_from (problem_by g start) number a bytes ≡ none
 
 -- from whatever place the arrays held
-abbrev pub ReachesFrom : GridStruct → List ℕ → List ℕ → ℕ → State → ℕ → List ℕ → (Status → State) → Option Reached → Type 0
+abbrev pub ReachesFrom : GridStruct → List ℕ → List ℕ → ℕ → State → ℕ → List ℕ → (Status → State) → Option Reached
+    → Type 0
 ReachesFrom g tails trail from s number order after r = (start : List ℕ) (a : Simplex) → HasRead g start tails a s
     → Reaches g start (drop from trail) a number order after r

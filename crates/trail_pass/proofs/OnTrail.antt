@@ -80,7 +80,8 @@ ended-whole p budget {n} {read} {kind} {block} {vertices} {simplex} e =
 module _ (g : GridStruct) (start table : List ℕ) where
   -- what is kept of the place before
   pub record Behind (before : Before) (h : ℕ) : Type 0 where
-    pub T : IsMask before.sets.t (set_t (problem_in g start table) (place_at (path (problem_in g start table)).visited h))
+    pub T : IsMask before.sets.t
+        (set_t (problem_in g start table) (place_at (path (problem_in g start table)).visited h))
     pub U : IsMask before.sets.u
         (set_u (problem_in g start table).grid (place_at (path (problem_in g start table)).visited h))
 

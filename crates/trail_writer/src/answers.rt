@@ -74,18 +74,8 @@ fn stored(
         (length trail.old) finish) trail.old }
 {
     match finish {
-        Finish::Spent => true,
-        Finish::Unknown {
-            places: _,
-            position: _,
-        } => true,
-        Finish::Ended {
-            kind: _,
-            places: _,
-            index: _,
-            status: _,
-            labels_read: _,
-        } => {
+        Finish::Spent | Finish::Unknown { .. } => true,
+        Finish::Ended { .. } => {
             if trail.len() < bytes {
                 return false;
             }
@@ -127,26 +117,52 @@ fn announced(
     ensures trail_after { trail.new ≡ front (cond (announces result.run)
         (whole_trail (problem_from g start.now labels.now)) []) trail.old }
 {
-    let m = g.indices;
-    let previous = g.previous;
-    let next = g.next;
     let sizes = block_sizes(g);
-    let mut first = padded(start, m);
+    let mut first = padded(start, g.indices);
     let mut order = [0u32; 16];
     let passed = pass_recording(
-        g, binomials, labels, &previous, &next, &sizes, &mut first, &mut order, trail, false,
+        g,
+        binomials,
+        labels,
+        &g.previous,
+        &g.next,
+        &sizes,
+        &mut first,
+        &mut order,
+        trail,
+        false,
         budget,
     );
-    let bytes = passed.bytes;
-    let finish = passed.finish;
     let has_room = stored(
-        g, binomials, start, labels, &previous, &next, &sizes, trail, budget, finish, bytes,
+        g,
+        binomials,
+        start,
+        labels,
+        &g.previous,
+        &g.next,
+        &sizes,
+        trail,
+        budget,
+        passed.finish,
+        passed.bytes,
     );
     if !has_room {
         return refused(17);
     }
-    let run = announce(g, &previous, &sizes, &first, &order, finish, answer, budget);
-    TrailAnswer { run, bytes }
+    let run = announce(
+        g,
+        &g.previous,
+        &sizes,
+        &first,
+        &order,
+        passed.finish,
+        answer,
+        budget,
+    );
+    TrailAnswer {
+        run,
+        bytes: passed.bytes,
+    }
 }
 
 // Questions 1 to 8, then 9 or 16, then 17, on every input. Refusals write nothing. What is written stands at the front

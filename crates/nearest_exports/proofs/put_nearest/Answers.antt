@@ -14,9 +14,9 @@ two x y (a ∷ b ∷ old) h = refl
 two x y [] h = absurd (omega arith)
 two x y (a ∷ []) h = absurd (omega arith)
 
-pub returns-in-Vertex : goal.returns-in-Vertex
-returns-in-Vertex c = rw c.in-Vertex.is
-    (two c.in-Vertex.position c.in-Vertex.listed c.args.near.now
+pub returns-in-Some : goal.returns-in-Some
+returns-in-Some c = rw c.in-Some.is
+    (two c.in-Some.vertex.position c.in-Some.vertex.listed c.args.near.now
     c.requires)
 
 pub returns-in_default : goal.returns-in_default

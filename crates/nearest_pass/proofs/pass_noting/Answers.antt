@@ -235,7 +235,8 @@ ended : (c : After-make_move-outcome) (o : Outcome) → ((s : Status) → o ≡ 
     let p = problem_in P.g P.start P.table in
     let finish = ended_of P.stand o a.budget in
     Finished p a.budget (rounds P) n.first n.order finish
-    × Surveys p a.w.now a.given a.budget a.list.now (list_then c) (some_vertex (tally c).nearest (tally c).listed) finish
+    × Surveys p a.w.now a.given a.budget a.list.now (list_then c) (some_vertex (tally c).nearest (tally c).listed)
+    finish
 ended c (PlaceEnd k) n M =
     let P = here c in (
       place-ends P M,

@@ -33,13 +33,13 @@ pub pass-finish-requires : goal.pass-finish-requires
 pass-finish-requires c =
     let lengths = c.rests-lengths in
     let round = c.round_of-round in
-    can_pass c.requires lengths.result lengths.ensures round.result round.ensures.0 round.ensures.1.0 c.at-held.result c.at-held.ensures
+    can_pass c.requires lengths.result lengths.ensures round.result round.ensures.0 round.ensures.1 c.at-held.result c.at-held.ensures
 
 pub announce-requires : goal.announce-requires
 announce-requires c =
     let here = (goal.at.announce-requires c).After-pass-finish in
     let round = c.round_of-round in
-    can_announce c.requires c.args.budget round.result c.pass-finish.new.held round.ensures.1.0
+    can_announce c.requires c.args.budget round.result c.pass-finish.new.held round.ensures.1
     c.pass-finish.result (finished here)
 
 pub returns : goal.returns

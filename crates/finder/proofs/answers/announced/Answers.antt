@@ -13,7 +13,7 @@ pub pass-finish-requires : goal.pass-finish-requires
 pass-finish-requires c =
     let w = c.requires in
     let round = c.round_of-round in
-    can_pass w.readable w.accepted round.result round.ensures.0 round.ensures.1.0 c.at-held.result c.at-held.ensures
+    can_pass w.readable w.accepted round.result round.ensures.0 round.ensures.1 c.at-held.result c.at-held.ensures
 
 finished : (c : After-pass-finish) → (let a = c.args in
     FinishedBy a.g c.requires.readable.made a.start.now a.labels.now a.budget c.round_of-round.result
@@ -29,7 +29,7 @@ announce-requires c =
     let made = c.requires.readable.made in
     let round = c.round_of-round in
     can_announce a.g made a.start.now a.labels.now a.budget round.result c.pass-finish.new.held _
-    round.ensures.1.0 c.requires.room c.pass-finish.result (finished (goal.at.announce-requires c).After-pass-finish)
+    round.ensures.1 c.requires.room c.pass-finish.result (finished (goal.at.announce-requires c).After-pass-finish)
 
 pub returns : goal.returns
 returns c =

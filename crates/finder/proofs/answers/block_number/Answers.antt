@@ -10,7 +10,7 @@ overflow_cast-result c =
     let g = c.args.g in
     omega (
       arith,
-      c.block_of-j.ensures,
+      c.block_of.ensures,
       (block_spans (shape g).sizes c.args.h (omega (arith, c.requires.1, made-indices g c.requires.0))).0,
       (blocks-range g c.requires.0).1,
       made-blocks g c.requires.0,
@@ -21,11 +21,11 @@ overflow_add-result c =
     let g = c.args.g in
     omega (
       arith,
-      c.block_of-j.ensures,
+      c.block_of.ensures,
       (block_spans (shape g).sizes c.args.h (omega (arith, c.requires.1, made-indices g c.requires.0))).0,
       (blocks-range g c.requires.0).1,
       made-blocks g c.requires.0,
     )
 
 pub returns : goal.returns
-returns c = omega (arith, c.block_of-j.ensures)
+returns c = omega (arith, c.block_of.ensures)

@@ -11,4 +11,5 @@ use Rattle.nearest_met.proofs.distances.distance_of.Given as goal
 
 abbrev pub invariant-loop-h : goal.invariant-loop-h
 invariant-loop-h l =
-    ((g : Grid) → CanMeasure g l.weights l.w l.m → l.total ≡ sum (map (term g l.w l.y) (up_from 0 l.h))) × (l.total ≤ l.h * 3932100000)
+    ((g : Grid) → CanMeasure g l.weights l.w l.m → l.total ≡ sum (map (term g l.w l.y) (up_from 0 l.h)))
+    × (l.total ≤ l.h * 3932100000)

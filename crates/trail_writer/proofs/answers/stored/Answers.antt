@@ -1,4 +1,5 @@
 -- `answers::stored` meets its contract: the second pass is made at an end whose trail has room. Assumes nothing.
+use mathlib.Core.Logic.{⊎_elim}
 use mathlib.Core.Path.{sym}
 use borrow.Author.Tests.{le-leb, lt-leb}
 use lib.ListN.{length}
@@ -31,14 +32,10 @@ write_trail-requires c =
     }
 
 pub returns-in-Spent : goal.returns-in-Spent
-returns-in-Spent c =
-    let is = c.in-Spent.is in
-    record { value = rw is; trail_after = rw is (sym (front-none _)) }
-
-pub returns-in-Unknown : goal.returns-in-Unknown
-returns-in-Unknown c =
-    let is = c.in-Unknown.is in
-    record { value = rw is; trail_after = rw is (sym (front-none _)) }
+returns-in-Spent c = ⊎_elim
+    (λ is. record { value = rw is; trail_after = rw is (sym (front-none _)) })
+    (λ v. record { value = rw v.2; trail_after = rw v.2 (sym (front-none _)) })
+    c.in-Spent.is
 
 pub returns-else-trail-bytes : goal.returns-else-trail-bytes
 returns-else-trail-bytes c =
