@@ -1,6 +1,5 @@
 // The calls on a game.
-use crate::facts::show_levels;
-use case_lines::{byte_room, bytes, number, show, show_bytes, show_words, word_room, words};
+use case_lines::{bytes, number, room, show_bytes, show_numbers, show_runs, words};
 use std::io;
 use std::io::{Input, Print};
 
@@ -13,9 +12,9 @@ fn label_into(
 ) -> io::Result<()> {
     let mut count: u64 = 7;
     let answered = exports::leveretplate_label(sizes, divisions, losses, labels, &mut count);
-    show(rt, b"number ", answered as u64)?;
-    show(rt, b"count ", count)?;
-    show_bytes(rt, b"labels", labels)
+    println!(rt; "number {answered}")?;
+    println!(rt; "count {count}")?;
+    show_bytes(rt, "labels", labels)
 }
 
 // The length of the buffer.
@@ -26,8 +25,8 @@ fn label_with(
     losses: &[u16],
 ) -> io::Result<()> {
     let mut labels = [255u8; 60001];
-    let room = byte_room(rt, &labels)?;
-    label_into(rt, sizes, divisions, losses, &mut labels[..room])
+    let length = room(rt, &labels)?;
+    label_into(rt, sizes, divisions, losses, &mut labels[..length])
 }
 
 // The losses, and the length of the buffer.
@@ -48,7 +47,7 @@ pub fn label_built_in(
     let mut losses = [0u16; 81];
     bytes(rt, &mut game)?;
     game_built_in::put_losses(game[0], &mut losses);
-    let given = word_room(rt, &losses)?;
+    let given = room(rt, &losses)?;
     label_with(rt, sizes, divisions, &losses[..given])
 }
 
@@ -68,10 +67,10 @@ fn refine_into(
     let answered = exports::leveretplate_refine(
         sizes, divisions, start, losses, factor, levels, labels, answer, &mut facts,
     );
-    show(rt, b"number ", answered as u64)?;
-    show_levels(rt, facts)?;
-    show_words(rt, b"answer", answer)?;
-    show_bytes(rt, b"labels", labels)
+    println!(rt; "number {answered}")?;
+    show_numbers(rt, "facts", &facts)?;
+    show_runs(rt, "answer", answer)?;
+    show_bytes(rt, "labels", labels)
 }
 
 // The losses, and the lengths of the label buffer and the answer buffer.
@@ -85,8 +84,8 @@ pub fn refine(
     let mut labels = [255u8; 65536];
     let mut answer = [65535u16; 16384];
     let given = words(rt, &mut losses)?;
-    let labelled = byte_room(rt, &labels)?;
-    let room = word_room(rt, &answer)?;
+    let labelled = room(rt, &labels)?;
+    let answered = room(rt, &answer)?;
     refine_into(
         rt,
         sizes,
@@ -94,6 +93,6 @@ pub fn refine(
         start,
         &losses[..given],
         &mut labels[..labelled],
-        &mut answer[..room],
+        &mut answer[..answered],
     )
 }

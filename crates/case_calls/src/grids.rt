@@ -1,5 +1,5 @@
 // The calls on a label table without a path.
-use case_lines::{byte_room, bytes, show, show_bytes, words};
+use case_lines::{bytes, room, show_bytes, words};
 use std::io;
 use std::io::{Input, Print};
 
@@ -15,7 +15,7 @@ pub fn check(rt: &(impl Input + Print), sizes: &[u8], divisions: &[u16]) -> io::
         &labels[..labelled],
         &points[..given],
     );
-    show(rt, b"number ", answered as u64)
+    println!(rt; "number {answered}")
 }
 
 fn boundary_into(
@@ -27,9 +27,9 @@ fn boundary_into(
 ) -> io::Result<()> {
     let mut count: u64 = 7;
     let answered = exports::leveretplate_boundary(sizes, divisions, old, labels, &mut count);
-    show(rt, b"number ", answered as u64)?;
-    show(rt, b"count ", count)?;
-    show_bytes(rt, b"labels", labels)
+    println!(rt; "number {answered}")?;
+    println!(rt; "count {count}")?;
+    show_bytes(rt, "labels", labels)
 }
 
 // The old labels and the length of the buffer.
@@ -37,6 +37,12 @@ pub fn boundary(rt: &(impl Input + Print), sizes: &[u8], divisions: &[u16]) -> i
     let mut old = [0u8; 60001];
     let mut labels = [255u8; 60001];
     let labelled = bytes(rt, &mut old)?;
-    let room = byte_room(rt, &labels)?;
-    boundary_into(rt, sizes, divisions, &old[..labelled], &mut labels[..room])
+    let length = room(rt, &labels)?;
+    boundary_into(
+        rt,
+        sizes,
+        divisions,
+        &old[..labelled],
+        &mut labels[..length],
+    )
 }

@@ -4,77 +4,61 @@
 // not written shows.
 #![tactic(auto)]
 
-mod facts;
 mod games;
 mod grids;
+mod kinds;
 mod paths;
 mod shelves;
 mod slips;
 
 use case_lines::{bytes, name, number, words};
+use kinds::{Call, GridCall, StartCall};
 use std::io;
 use std::io::{Input, Print};
 
-// The kinds of calls: slips and the shelf come first, which have no grid, and last those that have a start.
 fn make_from(
     rt: &(impl Input + Print),
-    kind: u64,
+    call: StartCall,
     sizes: &[u8],
     divisions: &[u16],
 ) -> io::Result<()> {
     let mut start = [0u16; 64];
     let given = words(rt, &mut start)?;
-    if kind == 9 {
-        return paths::run(rt, sizes, divisions, &start[..given]);
+    let start = &start[..given];
+    match call {
+        StartCall::Run => paths::run(rt, sizes, divisions, start),
+        StartCall::Nearest => paths::nearest(rt, sizes, divisions, start),
+        StartCall::RunWithTrail => paths::run_with_trail(rt, sizes, divisions, start),
+        StartCall::ReadTrail => paths::read_trail(rt, sizes, divisions, start),
+        StartCall::Refine => games::refine(rt, sizes, divisions, start),
     }
-    if kind == 10 {
-        return paths::nearest(rt, sizes, divisions, &start[..given]);
-    }
-    if kind == 11 {
-        return paths::run_with_trail(rt, sizes, divisions, &start[..given]);
-    }
-    if kind == 12 {
-        return paths::read_trail(rt, sizes, divisions, &start[..given]);
-    }
-    games::refine(rt, sizes, divisions, &start[..given])
 }
 
-fn make_on_grid(rt: &(impl Input + Print), kind: u64) -> io::Result<()> {
+fn make_on_grid(rt: &(impl Input + Print), call: GridCall) -> io::Result<()> {
     let mut sizes = [0u8; 64];
     let mut divisions = [0u16; 64];
     let blocks = bytes(rt, &mut sizes)?;
     let given = words(rt, &mut divisions)?;
-    if kind == 5 {
-        return grids::check(rt, &sizes[..blocks], &divisions[..given]);
+    let sizes = &sizes[..blocks];
+    let divisions = &divisions[..given];
+    match call {
+        GridCall::Check => grids::check(rt, sizes, divisions),
+        GridCall::Boundary => grids::boundary(rt, sizes, divisions),
+        GridCall::Label => games::label(rt, sizes, divisions),
+        GridCall::LabelBuiltIn => games::label_built_in(rt, sizes, divisions),
+        GridCall::From(call) => make_from(rt, call, sizes, divisions),
     }
-    if kind == 6 {
-        return grids::boundary(rt, &sizes[..blocks], &divisions[..given]);
-    }
-    if kind == 7 {
-        return games::label(rt, &sizes[..blocks], &divisions[..given]);
-    }
-    if kind == 8 {
-        return games::label_built_in(rt, &sizes[..blocks], &divisions[..given]);
-    }
-    make_from(rt, kind, &sizes[..blocks], &divisions[..given])
 }
 
 fn make_next(rt: &(impl Input + Print)) -> io::Result<()> {
     name(rt)?;
-    let kind = number(rt)?;
-    if kind == 1 {
-        return slips::print_sheet(rt);
+    match Call::try_from(number(rt)?)? {
+        Call::PrintSheet => slips::print_sheet(rt),
+        Call::Sheet => slips::sheet(rt),
+        Call::File => shelves::file(rt),
+        Call::Current => shelves::current(rt),
+        Call::OnGrid(call) => make_on_grid(rt, call),
     }
-    if kind == 2 {
-        return slips::sheet(rt);
-    }
-    if kind == 3 {
-        return shelves::file(rt);
-    }
-    if kind == 4 {
-        return shelves::current(rt);
-    }
-    make_on_grid(rt, kind)
 }
 
 fn main(rt: HostRuntime) -> io::Result<()> {

@@ -1,6 +1,5 @@
 // The calls on a path.
-use crate::facts::{show_facts, show_near, show_place, show_points};
-use case_lines::{byte_room, bytes, number, show, show_bytes, show_words, word_room, words};
+use case_lines::{bytes, number, room, show_bytes, show_numbers, show_runs, words};
 use nearest_exports::leveretplate_nearest;
 use std::io;
 use std::io::{Input, Print};
@@ -21,9 +20,9 @@ fn run_into(
     let answered = exports::leveretplate_run(
         sizes, divisions, start, labels, answer, budget, &mut facts,
     );
-    show(rt, b"number ", answered as u64)?;
-    show_facts(rt, facts)?;
-    show_words(rt, b"answer", answer)
+    println!(rt; "number {answered}")?;
+    show_numbers(rt, "facts", &facts)?;
+    show_runs(rt, "answer", answer)
 }
 
 // The labels, and the length of the answer buffer.
@@ -36,14 +35,14 @@ pub fn run(
     let mut labels = [0u8; 60001];
     let mut answer = [65535u16; 256];
     let labelled = bytes(rt, &mut labels)?;
-    let room = word_room(rt, &answer)?;
+    let answered = room(rt, &answer)?;
     run_into(
         rt,
         sizes,
         divisions,
         start,
         &labels[..labelled],
-        &mut answer[..room],
+        &mut answer[..answered],
     )
 }
 
@@ -65,11 +64,11 @@ fn nearest_into(
     let answered = leveretplate_nearest(
         sizes, divisions, start, labels, answer, budget, w, distance, list, &mut facts, &mut near,
     );
-    show(rt, b"number ", answered as u64)?;
-    show_facts(rt, facts)?;
-    show_near(rt, near)?;
-    show_words(rt, b"answer", answer)?;
-    show_words(rt, b"list", list)
+    println!(rt; "number {answered}")?;
+    show_numbers(rt, "facts", &facts)?;
+    show_numbers(rt, "near", &near)?;
+    show_runs(rt, "answer", answer)?;
+    show_runs(rt, "list", list)
 }
 
 // The labels, w, and the lengths of the answer buffer and the list.
@@ -85,8 +84,8 @@ pub fn nearest(
     let mut list = [65535u16; 60100];
     let labelled = bytes(rt, &mut labels)?;
     let given = words(rt, &mut w)?;
-    let room = word_room(rt, &answer)?;
-    let entries = word_room(rt, &list)?;
+    let answered = room(rt, &answer)?;
+    let entries = room(rt, &list)?;
     nearest_into(
         rt,
         sizes,
@@ -94,7 +93,7 @@ pub fn nearest(
         start,
         &labels[..labelled],
         &w[..given],
-        &mut answer[..room],
+        &mut answer[..answered],
         &mut list[..entries],
     )
 }
@@ -123,11 +122,11 @@ fn write_into(
         &mut facts,
         &mut written,
     );
-    show(rt, b"number ", answered as u64)?;
-    show_facts(rt, facts)?;
-    show(rt, b"bytes ", written)?;
-    show_words(rt, b"answer", answer)?;
-    show_bytes(rt, b"trail", trail)
+    println!(rt; "number {answered}")?;
+    show_numbers(rt, "facts", &facts)?;
+    println!(rt; "bytes {written}")?;
+    show_runs(rt, "answer", answer)?;
+    show_bytes(rt, "trail", trail)
 }
 
 // The labels, and the lengths of the answer buffer and the trail buffer.
@@ -141,16 +140,16 @@ pub fn run_with_trail(
     let mut answer = [65535u16; 256];
     let mut trail = [255u8; 100000];
     let labelled = bytes(rt, &mut labels)?;
-    let room = word_room(rt, &answer)?;
-    let bytes_room = byte_room(rt, &trail)?;
+    let answered = room(rt, &answer)?;
+    let written = room(rt, &trail)?;
     write_into(
         rt,
         sizes,
         divisions,
         start,
         &labels[..labelled],
-        &mut answer[..room],
-        &mut trail[..bytes_room],
+        &mut answer[..answered],
+        &mut trail[..written],
     )
 }
 
@@ -175,7 +174,7 @@ pub fn read_trail(
         &mut points,
         &mut place,
     );
-    show(rt, b"number ", answered as u64)?;
-    show_place(rt, place)?;
-    show_points(rt, points)
+    println!(rt; "number {answered}")?;
+    show_numbers(rt, "place", &place)?;
+    show_runs(rt, "points", &points)
 }

@@ -1,5 +1,5 @@
 // The calls of the shelf. `to` is 7 before each.
-use case_lines::{number, show, show_words, words};
+use case_lines::{number, show_runs, words};
 use std::io;
 use std::io::{Input, Print};
 
@@ -8,9 +8,9 @@ fn file_in(rt: &(impl Input + Print), list: &mut [u16]) -> io::Result<()> {
     let named = number(rt)? as usize;
     let mut to: usize = 7;
     let answered = exports::leveretplate_file(list, count, named, &mut to);
-    show(rt, b"number ", answered as u64)?;
-    show(rt, b"to ", to as u64)?;
-    show_words(rt, b"list", list)
+    println!(rt; "number {answered}")?;
+    println!(rt; "to {to}")?;
+    show_runs(rt, "list", list)
 }
 
 // A call has the list, of up to 1,024 numbers, the count of sheets, and the sheet named or asked for.
@@ -27,7 +27,7 @@ pub fn current(rt: &(impl Input + Print)) -> io::Result<()> {
     let sheet = number(rt)? as usize;
     let mut to: usize = 7;
     let answered = exports::leveretplate_current(&list[..length], count, sheet, &mut to);
-    show(rt, b"number ", answered as u64)?;
-    show(rt, b"to ", to as u64)?;
-    show_words(rt, b"list", &list[..length])
+    println!(rt; "number {answered}")?;
+    println!(rt; "to {to}")?;
+    show_runs(rt, "list", &list[..length])
 }

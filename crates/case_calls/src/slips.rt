@@ -1,5 +1,5 @@
 // A slip, in the kiosk's way and through the exported function.
-use case_lines::{bytes, number, show, show_bytes, show_text, within};
+use case_lines::{bytes, number, show_bytes, within};
 use sheet_output::SLIP_BYTES;
 use std::io;
 use std::io::{Input, Print};
@@ -13,13 +13,9 @@ pub fn print_sheet(rt: &(impl Input + Print)) -> io::Result<()> {
 // The length of the sheet, the sheet, and what stands behind it.
 fn show_sheet(rt: &impl Print, sheet: &[u8], written: usize) -> io::Result<()> {
     let length = within(written, sheet);
-    show(rt, b"length ", written as u64)?;
-    show_text(rt, &sheet[..length])?;
-    show_bytes(rt, b"behind", &sheet[length..])
-}
-
-fn show_whole(rt: &impl Print, sheet: [u8; SHEET_BYTES], written: usize) -> io::Result<()> {
-    show_sheet(rt, &sheet, written)
+    println!(rt; "length {written}")?;
+    rt.write_all(&sheet[..length])?;
+    show_bytes(rt, "behind", &sheet[length..])
 }
 
 // The slip is a list.
@@ -28,5 +24,5 @@ pub fn sheet(rt: &(impl Input + Print)) -> io::Result<()> {
     let mut sheet = [255u8; SHEET_BYTES];
     let length = bytes(rt, &mut slip)?;
     let written = exports::leveretplate_sheet(&slip[..length], &mut sheet);
-    show_whole(rt, sheet, written)
+    show_sheet(rt, &sheet, written)
 }

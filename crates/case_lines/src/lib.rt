@@ -3,21 +3,15 @@
 // read or printed, so those here say of a count that it lies within its list, and the functions that print say nothing.
 #![tactic(auto)]
 
-ghost use Rattle.std.specs.Prelude.{◌≡◌, ◌≤◌, length};
+ghost use Rattle.std.specs.Prelude.{◌≡◌, ◌≤◌, length, take, IfOk};
 ghost use Rattle.std.specs.Io.{ReadsAtMost};
 ghost use Rattle.std.specs.Counts.{IsPrefixLen};
 
 mod printing;
 
-pub use printing::{show, show_bytes, show_number, show_numbers, show_text, show_words};
+pub use printing::{show_bytes, show_numbers, show_runs};
 use std::io;
 use std::io::{ErrorKind, Input, Print, Read};
-
-fn smaller(a: usize, b: usize) -> usize
-    ensures { (result ≤ a) × (result ≤ b) }
-{
-    if a < b { a } else { b }
-}
 
 // The next bytes, as many as the list has. Where the input ends before, the rest of the list is what the reader left.
 fn fill(rt: &impl Input, list: &mut [u8]) -> io::Result<()> {
@@ -31,28 +25,21 @@ fn fill(rt: &impl Input, list: &mut [u8]) -> io::Result<()> {
 pub fn number(rt: &impl Input) -> io::Result<u64> {
     let mut eight = [0u8; 8];
     fill(rt, &mut eight)?;
-    Ok(little_endian::number64(&eight, 0))
+    Ok(u64::from_le_bytes(eight))
 }
 
 // A length, or the list's where that is less.
 pub fn within(length: usize, list: &[u8]) -> usize
     ensures { IsPrefixLen result list.now }
 {
-    smaller(length, list.len())
+    length.min(list.len())
 }
 
 // The next number as a length within the list. An error leaves nothing but itself, since the list is only looked at.
-pub fn byte_room(rt: &impl Input, list: &[u8]) -> io::Result<usize>
-    ensures { ReadsAtMost result list.now }
+pub fn room<T>(rt: &impl Input, list: &[T]) -> io::Result<usize>
+    ensures { IfOk result (λ n. (n ≤ length list.now) × (n ≡ length (take n list.now))) }
 {
-    Ok(within(number(rt)? as usize, list))
-}
-
-// The same for numbers of 16 bits.
-pub fn word_room(rt: &impl Input, list: &[u16]) -> io::Result<usize>
-    ensures { ReadsAtMost result list.now }
-{
-    Ok(smaller(number(rt)? as usize, list.len()))
+    Ok(list.len().min(number(rt)? as usize))
 }
 
 // The next list, of bytes, to the front of the one lent: how many it has. After an error the list lent has its length,
@@ -61,7 +48,7 @@ pub fn bytes(rt: &impl Input, list: &mut [u8]) -> io::Result<usize>
     ensures count { ReadsAtMost result list.new }
     ensures long { length list.new ≡ length list.old }
 {
-    let count = byte_room(rt, list)?;
+    let count = room(rt, list)?;
     fill(rt, &mut list[..count])?;
     Ok(count)
 }
@@ -69,9 +56,7 @@ pub fn bytes(rt: &impl Input, list: &mut [u8]) -> io::Result<usize>
 fn word(rt: &impl Input) -> io::Result<u16> {
     let mut pair = [0u8; 2];
     fill(rt, &mut pair)?;
-    let mut read = [0u16; 1];
-    little_endian::words(&pair, 0, &mut read);
-    Ok(read[0])
+    Ok(u16::from_le_bytes(pair))
 }
 
 // The next list, of numbers of 16 bits, with what is said of one of bytes.
@@ -79,7 +64,7 @@ pub fn words(rt: &impl Input, list: &mut [u16]) -> io::Result<usize>
     ensures count { ReadsAtMost result list.new }
     ensures long { length list.new ≡ length list.old }
 {
-    let count = word_room(rt, list)?;
+    let count = room(rt, list)?;
     for entry in &mut list[..count] {
         *entry = word(rt)?;
     }
@@ -90,5 +75,5 @@ pub fn words(rt: &impl Input, list: &mut [u16]) -> io::Result<usize>
 pub fn name(rt: &(impl Input + Print)) -> io::Result<()> {
     let mut text = [0u8; 128];
     let length = bytes(rt, &mut text)?;
-    show_text(rt, &text[..length])
+    rt.write_all(&text[..length])
 }

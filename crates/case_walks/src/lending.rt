@@ -15,62 +15,52 @@ use walk_exports::{
 use walk_numbers::Answered;
 use walk_places::Walk;
 
-pub fn begun(s: Answered, sizes: &[u8], divisions: &[u16], start: &[u16], labels: &[u8]) -> Answered
+pub fn begun(
+    mut s: Answered,
+    sizes: &[u8],
+    divisions: &[u16],
+    start: &[u16],
+    labels: &[u8],
+) -> Answered
     ensures { result ≡ after_beginning s
         sizes.now divisions.now start.now labels.now }
 {
-    let mut to = s;
-    leveretplate_walk_at_start(&mut to, sizes, divisions, start, labels);
-    to
+    leveretplate_walk_at_start(&mut s, sizes, divisions, start, labels);
+    s
 }
 
-pub fn moved(s: Answered, labels: &[u8]) -> Answered
+pub fn moved(mut s: Answered, labels: &[u8]) -> Answered
     ensures { result ≡ after_moving s labels.now }
 {
-    let mut to = s;
-    leveretplate_move_on(&mut to, labels);
-    to
+    leveretplate_move_on(&mut s, labels);
+    s
 }
 
-pub fn shown(s: Answered, labels: &[u8]) -> Answered
+pub fn shown(mut s: Answered, labels: &[u8]) -> Answered
     ensures { result ≡ after_showing s labels.now }
 {
-    let mut to = s;
-    leveretplate_preview(&mut to, labels);
-    to
+    leveretplate_preview(&mut s, labels);
+    s
 }
 
-pub fn pointed(s: Answered, labels: &[u8]) -> Answered
+pub fn pointed(mut s: Answered, labels: &[u8]) -> Answered
     ensures { result ≡ after_pointing s labels.now }
 {
-    let mut to = s;
-    leveretplate_walk_points(&mut to, labels);
-    to
+    leveretplate_walk_points(&mut s, labels);
+    s
 }
 
 // The thin function that takes the walk itself: what it tells is printed. Where that cannot be printed, the error is
 // the answer, and no walk is given back: the caller still has its own.
-pub fn lent(rt: &impl Print, w: Walk, labels: &[u8]) -> io::Result<Walk>
+pub fn lent(rt: &impl Print, mut w: Walk, labels: &[u8]) -> io::Result<Walk>
     ensures { IfOk result (λ walk. walk ≡ (call_of w labels.now).walk) }
 {
-    let mut to = w;
-    show_told(rt, move_on(&mut to, labels))?;
-    Ok(to)
+    show_told(rt, move_on(&mut w, labels))?;
+    Ok(w)
 }
 
 // The same answer with another walk.
-pub fn with_walk(s: Answered, walk: Walk) -> Answered {
-    let fields = s.fields;
-    let simplex = s.simplex;
-    Answered {
-        walk,
-        vertices: s.vertices,
-        fields,
-        simplex,
-        number: s.number,
-        kind: s.kind,
-        block: s.block,
-        rule: s.rule,
-        map: s.map,
-    }
+pub fn with_walk(mut s: Answered, walk: Walk) -> Answered {
+    s.walk = walk;
+    s
 }

@@ -10,7 +10,7 @@ use case_lines::{bytes, name, number, words};
 use printing::show_answered;
 use reading::read_answered;
 use std::io;
-use std::io::{Input, Print};
+use std::io::{ErrorKind, Input, Print};
 use walk_numbers::Answered;
 use walk_places::Walk;
 use walk_views::turned;
@@ -32,34 +32,54 @@ fn begin(rt: &impl Input, s: Answered, labels: &[u8]) -> io::Result<Answered> {
     ))
 }
 
-// The walk as it was before the last call, which has moved it, facing the place to which it was moved.
-fn turn(s: Answered, behind: Walk) -> Answered {
-    let last = s.walk;
-    let walk = turned(behind, last.present);
-    lending::with_walk(s, walk)
+// The kinds of calls.
+#[derive(Clone, Copy, Debug, PartialEq, Eq)]
+enum Call {
+    Begin,
+    Move,
+    Preview,
+    Points,
+    MoveLent,
+    // no call of the walk's: the walk as it was before the last one, which has moved it, facing the place to which it
+    // was moved
+    Turn,
+}
+
+// Standard input names them by numbers from 1 on.
+impl TryFrom<u64> for Call {
+    type Error = io::Error;
+
+    fn try_from(number: u64) -> io::Result<Call> {
+        Ok(match number {
+            1 => Call::Begin,
+            2 => Call::Move,
+            3 => Call::Preview,
+            4 => Call::Points,
+            5 => Call::MoveLent,
+            6 => Call::Turn,
+            _ => return Err(ErrorKind::InvalidData.into()),
+        })
+    }
 }
 
 // A call over the labels that are read.
-fn call(rt: &(impl Input + Print), kind: u64, s: Answered, behind: Walk) -> io::Result<Answered> {
+fn answer(
+    rt: &(impl Input + Print),
+    call: Call,
+    s: Answered,
+    behind: Walk,
+) -> io::Result<Answered> {
     let mut labels = [0u8; 60001];
     let labelled = bytes(rt, &mut labels)?;
-    if kind == 1 {
-        return begin(rt, s, &labels[..labelled]);
-    }
-    if kind == 2 {
-        return Ok(lending::moved(s, &labels[..labelled]));
-    }
-    if kind == 3 {
-        return Ok(lending::shown(s, &labels[..labelled]));
-    }
-    if kind == 4 {
-        return Ok(lending::pointed(s, &labels[..labelled]));
-    }
-    if kind == 5 {
-        let walk = lending::lent(rt, s.walk, &labels[..labelled])?;
-        return Ok(lending::with_walk(s, walk));
-    }
-    Ok(turn(s, behind))
+    let labels = &labels[..labelled];
+    Ok(match call {
+        Call::Begin => begin(rt, s, labels)?,
+        Call::Move => lending::moved(s, labels),
+        Call::Preview => lending::shown(s, labels),
+        Call::Points => lending::pointed(s, labels),
+        Call::MoveLent => lending::with_walk(s, lending::lent(rt, s.walk, labels)?),
+        Call::Turn => lending::with_walk(s, turned(behind, s.walk.present)),
+    })
 }
 
 fn make_calls(rt: &(impl Input + Print)) -> io::Result<()> {
@@ -67,8 +87,8 @@ fn make_calls(rt: &(impl Input + Print)) -> io::Result<()> {
     let mut s = read_answered(rt)?;
     let mut behind = s.walk;
     for _ in 0..number(rt)? {
-        let kind = number(rt)?;
-        let next = call(rt, kind, s, behind)?;
+        let call = Call::try_from(number(rt)?)?;
+        let next = answer(rt, call, s, behind)?;
         show_answered(rt, next)?;
         behind = s.walk;
         s = next;

@@ -7,23 +7,12 @@ use std::io::Input;
 use walk_numbers::Answered;
 use walk_places::{Place, Walk};
 
-fn wide(x: u16) -> u32 {
-    x as u32
-}
-
-fn widen(from: &[u16; 16], to: &mut [u32; 16]) {
-    for i in 0..16 {
-        to[i] = wide(from[i]);
-    }
-}
-
 fn read_place(rt: &impl Input, count: u8) -> io::Result<Place> {
     let mut first = [0u16; 16];
     let mut indices = [0u16; 16];
-    let mut order = [0u32; 16];
     words(rt, &mut first)?;
     words(rt, &mut indices)?;
-    widen(&indices, &mut order);
+    let order = indices.map(u32::from);
     Ok(Place {
         first,
         order,

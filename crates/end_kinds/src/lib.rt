@@ -6,18 +6,20 @@ ghost use Rattle.std.specs.Prelude.{◌≡◌, ◌≤◌};
 ghost use Rattle.end_kinds.specs.Numbers.{kind_number};
 
 // A complete place, or what remains of a place less one point.
-#[derive(Clone, Copy)]
+#[derive(Clone, Copy, Debug, PartialEq, Eq)]
 pub enum Kind {
     Place,
     Facet,
 }
 
 // The kind's number in the calls for C.
-pub fn kind_number(kind: Kind) -> u8
-    ensures { (result ≡ kind_number kind) × (result ≤ 1) }
-{
-    match kind {
-        Kind::Place => 0,
-        Kind::Facet => 1,
+impl From<Kind> for u8 {
+    ghost from_gives = { λ kind number. (number ≡ kind_number kind) × (number ≤ 1) };
+
+    fn from(kind: Kind) -> u8 {
+        match kind {
+            Kind::Place => 0,
+            Kind::Facet => 1,
+        }
     }
 }

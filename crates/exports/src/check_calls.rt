@@ -11,8 +11,8 @@ fn check_number(answer: CheckAnswer) -> u16
     ensures { result ≡ check_number answer }
 {
     match answer {
-        CheckAnswer::Refused(number) => number as u16,
-        CheckAnswer::Yes(block) => 256 * (block as u16),
+        CheckAnswer::Refused(number) => u16::from(number),
+        CheckAnswer::Yes(block) => 256 * u16::from(block),
         CheckAnswer::No => 0,
     }
 }

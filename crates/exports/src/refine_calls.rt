@@ -5,7 +5,6 @@ ghost use Rattle.grid_points.specs.Grid.{lent};
 ghost use Rattle.refinement.specs.Answer.{answer_left, labels_left, lent_game, refine_answer};
 ghost use Rattle.exports.specs.Refine.{level_facts, refined_facts};
 
-use end_kinds::kind_number;
 use refinement::{Level, Refined};
 
 // The facts of a level to the front of their buffer.
@@ -13,12 +12,13 @@ fn put_level(level: Level, facts: &mut [u64])
     requires { 5 ≤ length facts.old }
     ensures { facts.new ≡ front (level_facts level) facts.old }
 {
-    let kind = level.kind;
-    facts[0] = level.places;
-    facts[1] = level.labels_read;
-    facts[2] = kind_number(kind) as u64;
-    facts[3] = level.block as u64;
-    facts[4] = level.vertices as u64;
+    facts[..5].copy_from_slice(&[
+        level.places,
+        level.labels_read,
+        u64::from(u8::from(level.kind)),
+        u64::from(level.block),
+        level.vertices as u64,
+    ]);
 }
 
 // The facts of each level behind those of the one before.
@@ -26,14 +26,8 @@ fn put_levels(found: Refined, facts: &mut [u64])
     requires { (found.count ≤ 8) × (length found.levels ≡ 8) × (40 ≤ length facts.old) }
     ensures { facts.new ≡ front (refined_facts found) facts.old }
 {
-    let count = found.count;
-    let levels = found.levels;
-    let mut i: usize = 0;
-    while i < count {
-        let level = levels[i];
-        let at = 5 * i;
-        put_level(level, &mut facts[at..]);
-        i += 1;
+    for (i, level) in found.levels[..found.count].iter().enumerate() {
+        put_level(*level, &mut facts[5 * i..]);
     }
 }
 

@@ -4,7 +4,6 @@ ghost use Rattle.combinatorics.specs.Front.{front};
 ghost use Rattle.finder.specs.Numbers.{run_facts, run_number};
 
 use crate::RunAnswer;
-use end_kinds::kind_number;
 
 // The facts to the front of their buffer, and the number.
 pub fn put_answer(answer: RunAnswer, facts: &mut [u64]) -> u8
@@ -31,7 +30,7 @@ pub fn put_answer(answer: RunAnswer, facts: &mut [u64]) -> u8
         } => {
             facts[0] = places;
             facts[1] = labels_read;
-            facts[2] = kind_number(kind) as u64;
+            facts[2] = u8::from(kind) as u64;
             facts[3] = block as u64;
             facts[4] = vertices as u64;
             0

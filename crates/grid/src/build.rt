@@ -8,20 +8,22 @@ ghost use Rattle.grid.specs.Made.{grid_of};
 ghost use Rattle.grid_points.specs.Questions.{grid_questions};
 
 use crate::Grid;
-use grid_counts::{block_count, first_index, index_after, index_before, wide, wide16};
+use grid_counts::{block_count, first_index, index_after, index_before};
 
 // The block of index h.
 fn block_of(sizes: &[u8], h: usize) -> usize
     requires { h < sum sizes.now }
     ensures { result ≡ block_in sizes.now h }
 {
-    let mut j: usize = 0;
     let mut left = h;
-    while wide(sizes[j]) <= left {
-        left -= wide(sizes[j]);
-        j += 1;
+    for (j, size) in sizes.iter().enumerate() {
+        let size = usize::from(*size);
+        if left < size {
+            return j;
+        }
+        left -= size;
     }
-    j
+    unreachable!()
 }
 
 // What is known of each block: the sizes and divisions themselves, first indices and counts.
@@ -39,13 +41,11 @@ fn mark_blocks(
         BlocksMarked g own_sizes.new own_divisions.new firsts.new
         counts.new }
 {
-    let mut j: usize = 0;
-    while j < sizes.len() {
-        own_sizes[j] = sizes[j];
-        own_divisions[j] = divisions[j];
+    own_sizes[..sizes.len()].copy_from_slice(sizes);
+    own_divisions[..divisions.len()].copy_from_slice(divisions);
+    for (j, size) in sizes.iter().enumerate() {
         firsts[j] = first_index(sizes, j) as u8;
-        counts[j] = block_count(wide(sizes[j]), wide16(divisions[j])) as u16;
-        j += 1;
+        counts[j] = block_count(usize::from(*size), usize::from(divisions[j])) as u16;
     }
 }
 
@@ -55,10 +55,8 @@ fn product(counts: &[u16; 6], blocks: usize) -> usize
     ensures { (g : Shape) → BlocksCounted g counts.now blocks → result ≡ num_points g }
 {
     let mut product: usize = 1;
-    let mut j: usize = 0;
-    while j < blocks {
-        product = product * wide16(counts[j]);
-        j += 1;
+    for count in &counts[..blocks] {
+        product *= usize::from(*count);
     }
     product
 }
@@ -76,15 +74,13 @@ fn mark_indices(
     ensures { let g = lent sizes.now [] in
         IndicesMarked g block.new previous.new next.new }
 {
-    let mut h: usize = 0;
-    while h < indices {
+    for h in 0..indices {
         let j = block_of(sizes, h);
         let first = first_index(sizes, j);
-        let size = wide(sizes[j]);
+        let size = usize::from(sizes[j]);
         block[h] = j as u8;
         previous[h] = index_before(h, first, size);
         next[h] = index_after(h, first, size);
-        h += 1;
     }
 }
 

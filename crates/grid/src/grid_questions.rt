@@ -11,22 +11,13 @@ pub fn first_grid_no(sizes: &[u8], divisions: &[u16]) -> u8
     ensures { result ≡ first_no (grid_questions (lent sizes.now divisions.now)) }
 {
     let blocks = sizes.len();
-    if blocks < 1 {
+    if blocks < 1 || Grid::MAX_BLOCKS < blocks {
         return 1;
     }
-    if Grid::MAX_BLOCKS < blocks {
-        return 1;
-    }
-    if !each_at_least(sizes, Grid::MIN_SIZE) {
+    if !each_at_least(sizes, Grid::MIN_SIZE) || Grid::MAX_INDICES < first_index(sizes, blocks) {
         return 2;
     }
-    if Grid::MAX_INDICES < first_index(sizes, blocks) {
-        return 2;
-    }
-    if divisions.len() != blocks {
-        return 3;
-    }
-    if !each_one(divisions) {
+    if divisions.len() != blocks || !each_one(divisions) {
         return 3;
     }
     if Grid::MAX_POINTS < grid_counts::points(sizes, divisions) {

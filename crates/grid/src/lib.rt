@@ -84,10 +84,8 @@ impl Grid {
         requires { IsMade self }
         ensures { result ≡ bound (shape self) }
     {
-        let indices = self.indices;
-        let blocks = self.blocks;
-        let points = self.points;
-        points as u64 * grid_counts::terms(indices as u64, (indices - blocks) as u64)
+        self.points as u64
+            * grid_counts::terms(self.indices as u64, (self.indices - self.blocks) as u64)
     }
 
     // Question 5: has y m numbers, each block adding up to its division?
@@ -95,24 +93,20 @@ impl Grid {
         requires { IsMade self }
         ensures { result ≡ is_grid_point (shape self) y.now }
     {
-        let indices = self.indices;
-        if y.len() != indices {
+        if y.len() != self.indices {
             return false;
         }
-        let firsts = self.firsts;
-        let sizes = self.sizes;
-        let divisions = self.divisions;
-        let blocks = self.blocks;
-        let mut good = true;
-        let mut j: usize = 0;
-        while j < blocks {
-            let total = grid_counts::total(y, wide(firsts[j]), wide(sizes[j]));
-            if total != wide16(divisions[j]) {
-                good = false;
+        for j in 0..self.blocks {
+            let total = grid_counts::total(
+                y,
+                usize::from(self.firsts[j]),
+                usize::from(self.sizes[j]),
+            );
+            if total != usize::from(self.divisions[j]) {
+                return false;
             }
-            j += 1;
         }
-        good
+        true
     }
 
     // The block of index h.
@@ -120,7 +114,6 @@ impl Grid {
         requires { IsMade self × (h < self.indices) }
         ensures { result ≡ block_of (shape self) h }
     {
-        let block = self.block;
-        wide(block[h])
+        usize::from(self.block[h])
     }
 }

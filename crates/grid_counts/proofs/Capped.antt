@@ -1,7 +1,7 @@
 -- Numbers of points that are counted no further than 60,001. Assumes nothing.
 use mathlib.Core.List.{List}
 use mathlib.Core.Logic.{⊎_elim}
-use mathlib.Core.Path.{◌≡◌, ◌∙◌}
+use mathlib.Core.Path.{◌≡◌, sym, ap, ◌∙◌}
 use Prim.Native.Nat.{ℕ, zero, suc, ◌+◌, ◌-◌, ◌*◌, ◌≤◌, ◌<◌}
 use lib.ListN.{length, get_or, set, replicate, get_or-replicate}
 use native.Mathlib.Nat.{mul-le-mul}
@@ -29,6 +29,21 @@ capped-product (suc a) (suc b) =
     let w : capped (suc a) ≡ 60001 = omega arith in
     let r : 60001 * 1 ≤ suc a * suc b = mul-le-mul {n₁ = 60001} {m₁ = 1} p (omega arith) in
     rw w (omega arith)) (before_or_not (suc a) 60001)
+
+-- the product so far and one factor more, both counted no further, before the factors to come
+pub capped_turn : (p x b : ℕ) → capped (capped (p * capped x) * b) ≡ capped (p * (x * b))
+capped_turn p x b =
+    left (p * capped x) b ∙ ap capped (turned p (capped x) b) ∙ left x (p * b) ∙ ap capped (back p x b)
+  where
+    left : (a b : ℕ) → capped (capped a * b) ≡ capped (a * b)
+    left a b = let e : capped (capped a) ≡ capped a = omega arith in
+        sym (capped-product (capped a) b) ∙ rw e (capped-product a b)
+
+    turned : (p y b : ℕ) → (p * y) * b ≡ y * (p * b)
+    turned p y b = omega arith
+
+    back : (p x b : ℕ) → x * (p * b) ≡ p * (x * b)
+    back p x b = omega arith
 
 -- the row of r + 1 up to k, that of r from there on
 abbrev pub Raised : ℕ → ℕ → ℕ → List ℕ → Type 0

@@ -1,3 +1,5 @@
+pub mod OfStd
+pub mod Part
 pub mod SizeRange
 pub mod Capped
 pub mod Products

@@ -10,11 +10,9 @@ pub fn terms(m: u64, n: u64) -> u64
 {
     let mut product: u64 = 1;
     let mut sum: u64 = 1;
-    let mut k: u64 = 0;
-    while k < n {
-        product = product * (m - k);
+    for k in 0..n {
+        product *= m - k;
         sum += product;
-        k += 1;
     }
     sum
 }

@@ -4,7 +4,7 @@ ghost use Rattle.combinatorics.specs.Counting.{binomial_product, choose};
 ghost use Rattle.combinatorics.specs.Lists.{all, sum};
 ghost use Rattle.grid_counts.specs.Capped.{capped, IsRow};
 
-use crate::{MAX_POINTS, wide, wide16};
+use crate::MAX_POINTS;
 
 fn cap(n: usize) -> usize
     ensures { result ≡ capped n }
@@ -19,10 +19,8 @@ fn next_row(row: &mut [usize; 16], last: usize)
     ensures { (length row.new ≡ 16)
         × ((r : ℕ) → IsRow r last row.old → IsRow (suc r) last row.new) }
 {
-    let mut k: usize = 1;
-    while k <= last {
+    for k in 1..=last {
         row[k] = cap(row[k] + row[k - 1]);
-        k += 1;
     }
 }
 
@@ -36,13 +34,11 @@ pub fn block_count(size: usize, division: usize) -> usize
     }
     let last = size - 1;
     let mut row = [1usize; 16];
-    let mut r: usize = 0;
-    while r < division {
+    for _ in 0..division {
         if MAX_POINTS < row[last] {
             return MAX_POINTS + 1;
         }
         next_row(&mut row, last);
-        r += 1;
     }
     row[last]
 }
@@ -54,10 +50,8 @@ pub fn points(sizes: &[u8], divisions: &[u16]) -> usize
     ensures { result ≡ capped (binomial_product sizes.now divisions.now) }
 {
     let mut product: usize = 1;
-    let mut j: usize = 0;
-    while j < sizes.len() {
-        product = cap(product * block_count(wide(sizes[j]), wide16(divisions[j])));
-        j += 1;
+    for (size, division) in sizes.iter().zip(divisions) {
+        product = cap(product * block_count(usize::from(*size), usize::from(*division)));
     }
     product
 }

@@ -2,8 +2,8 @@
 use mathlib.Core.List.{List, [], ◌∷◌, ◌++◌}
 use mathlib.Core.Path.{◌≡◌, refl, ◌∙◌}
 use Prim.Native.Nat.{ℕ, zero, suc, ◌+◌, ◌*◌, ◌/◌, ◌%◌, ◌≤◌, ◌<◌}
-use lib.ListN.{length, length-map, get_or}
-use lib.Seq.{ext_get_or, get_or-append-add}
+use lib.ListN.{length, length-map, get_or, take, drop}
+use lib.Seq.{ext_get_or, get_or-append-add, get_or-drop, get_or-take}
 use native.Mathlib.Nat.{div-add-mod'}
 use native.Mathlib.Omega.{arith}
 use Rattle.combinatorics.proofs.Agreement.{map_range}
@@ -12,13 +12,17 @@ use Rattle.combinatorics.proofs.Turns.{map_at}
 use Rattle.combinatorics.specs.Lists.{up_from}
 use Rattle.little_endian.specs.Numbers.{number, words, bytes_of}
 
--- a number from its lowest 16 bits and the bytes behind them
-pub number_split : (k : ℕ) (bytes : List ℕ) (at behind : ℕ) → behind ≡ at + 2
-    → number (suc (suc k)) bytes at ≡ number 2 bytes at + 65536 * number k bytes behind
+-- a number in a part of the bytes
+pub number_part : (k n : ℕ) (bytes : List ℕ) (at i : ℕ) → i + k ≤ n
+    → number k (take n (drop at bytes)) i ≡ number k bytes (at + i)
 unfolding number
-number_split k bytes at behind e =
-    let two : at + 1 + 1 ≡ behind = omega arith in
-    rw two (omega arith)
+number_part zero n bytes at i h = refl
+number_part (suc k) n bytes at i h =
+    let here : get_or (take n (drop at bytes)) i 0 ≡ get_or bytes (at + i) 0 =
+    get_or-take n (drop at bytes) i 0 (omega arith) ∙ get_or-drop at bytes i 0 in
+    let e : at + (i + 1) ≡ at + i + 1 = omega arith in
+    let rest = number_part k n bytes at (i + 1) (omega arith) in
+    omega (arith, here, rw e at rest)
 
 pub length-words : (count : ℕ) (bytes : List ℕ) (from : ℕ) → length (words count bytes from) ≡ count
 unfolding words

@@ -16,9 +16,8 @@ fn put_nearest(found: Option<Vertex>, near: &mut [u64])
     requires { 2 ≤ length near.old }
     ensures { near.new ≡ front (near_facts found) near.old }
 {
-    if let Some(vertex) = found {
-        near[0] = vertex.position as u64;
-        near[1] = vertex.listed as u64;
+    if let Some(Vertex { position, listed }) = found {
+        near[..2].copy_from_slice(&[position as u64, listed as u64]);
     }
 }
 
@@ -64,8 +63,6 @@ pub fn leveretplate_nearest(
     let report = nearest::run(
         sizes, divisions, start, labels, answer, budget, w, distance, list,
     );
-    let found = report.nearest;
-    put_nearest(found, near);
-    let run = report.run;
-    put_answer(run, facts)
+    put_nearest(report.nearest, near);
+    put_answer(report.run, facts)
 }

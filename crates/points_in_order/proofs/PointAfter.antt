@@ -152,20 +152,16 @@ moves (suc i) (suc last) (a ∷ b) e h p z =
     let y : suc last - suc (suc i) ≡ last - suc i = omega arith in
     rw (moves i last b (omega arith) (omega arith) p (rw y at z))
 
--- looking for the last positive number, from the last place on
-pub zeros-start : (b : List ℕ) → 0 < length b → drop (suc (length b - 1)) b ≡ zeros (length b - suc (length b - 1))
-zeros-start b h =
-    let e : suc (length b - 1) ≡ length b = omega arith in
-    let z : length b - length b ≡ 0 = omega arith in
-    subst⁻¹ (λ (n : ℕ). drop n b ≡ zeros (length b - n)) e (rw (z, drop-length))
-
-pub zeros_turn : (b : List ℕ) (i : ℕ) → 0 < i → i < length b → get_or b i 0 ≡ 0
-    → drop (suc i) b ≡ zeros (length b - suc i)
-    → drop (suc (i - 1)) b ≡ zeros (length b - suc (i - 1))
-zeros_turn b i p h z l =
-    let e : suc (i - 1) ≡ i = omega arith in
+-- looking for the last positive number, from the end on
+pub zeros_turn : (b : List ℕ) (i : ℕ) → 0 < i → i ≤ length b → get_or b (i - 1) 0 ≡ 0
+    → drop i b ≡ zeros (length b - i)
+    → drop (i - 1) b ≡ zeros (length b - (i - 1))
+zeros_turn b zero p h z l = absurd (omega arith)
+zeros_turn b (suc i) p h z l =
+    let e : suc i - 1 ≡ i = omega arith in
     let n : length b - i ≡ suc (length b - suc i) = omega arith in
-    subst⁻¹ (λ (n : ℕ). drop n b ≡ zeros (length b - n)) e (rw (drop-cons b i 0 h, n, z, l))
+    let here = rw e at z in
+    rw (e, drop-cons b i 0 (omega arith), n, here, l)
 
 -- what the stores of a move make of a block, by the last positive place
 pub block_wraps : (b : List ℕ) (i : ℕ) → LastPositive b i → i ≡ 0

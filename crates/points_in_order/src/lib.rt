@@ -9,18 +9,14 @@ ghost use Rattle.points_in_order.specs.Lent.{WithFirsts, PointWithFirsts};
 ghost use Rattle.points_in_order.specs.PointAfter.{point_step, after, after_all, before_block, first_point};
 ghost use Rattle.points_in_order.specs.PointAfter.{LastPositive};
 
-use grid::wide;
-
 fn last_positive(block: &[u16]) -> usize
     requires { 0 < length block.now }
     ensures { LastPositive block.now result }
 {
-    let mut i = block.len() - 1;
-    while 0 < i {
+    for i in (1..block.len()).rev() {
         if block[i] != 0 {
             return i;
         }
-        i -= 1;
     }
     0
 }
@@ -38,8 +34,7 @@ fn advance_block(block: &mut [u16]) -> bool
         block[last] = rest;
         return false;
     }
-    let before = block[i - 1];
-    block[i - 1] = before + 1;
+    block[i - 1] += 1;
     block[last] = rest - 1;
     true
 }
@@ -53,11 +48,9 @@ pub fn next_point(sizes: &[u8], firsts: &[u8; 6], point: &mut [u16]) -> usize
         × (before_block sizes.now result point.new
         ≡ before_block sizes.now result point.old) }
 {
-    let mut j = sizes.len();
-    while 0 < j {
-        j -= 1;
-        let first = wide(firsts[j]);
-        let end = first + wide(sizes[j]);
+    for j in (0..sizes.len()).rev() {
+        let first = usize::from(firsts[j]);
+        let end = first + usize::from(sizes[j]);
         if advance_block(&mut point[first..end]) {
             return j;
         }
@@ -71,10 +64,8 @@ pub fn first_point(sizes: &[u8], divisions: &[u16], firsts: &[u8; 6], point: &mu
     ensures { let y = first_point sizes.now divisions.now in
         point.new ≡ front y (replicate 16 0) }
 {
-    let mut j: usize = 0;
-    while j < sizes.len() {
-        let last = wide(firsts[j]) + wide(sizes[j]) - 1;
+    for j in 0..sizes.len() {
+        let last = usize::from(firsts[j]) + usize::from(sizes[j]) - 1;
         point[last] = divisions[j];
-        j += 1;
     }
 }

@@ -7,7 +7,7 @@ ghost use Rattle.positions.specs.Binomials.{InTable, IsBinomial, HasBinomials, l
 ghost use Rattle.positions.specs.Falls.{Falls};
 
 use crate::{ENTRIES, ROW};
-use grid::{Grid, wide16};
+use grid::Grid;
 
 // How many lists of k numbers add up to x, which is not 0.
 fn entry(t: &[u16; ENTRIES], k: usize, x: usize) -> usize
@@ -15,8 +15,7 @@ fn entry(t: &[u16; ENTRIES], k: usize, x: usize) -> usize
     ensures { result ≡ lists k x }
 {
     if 2 < k {
-        let place = (16 - k) * ROW + x;
-        return wide16(t[place]);
+        return usize::from(t[(16 - k) * ROW + x]);
     }
     if k == 2 {
         return x + 1;
@@ -31,8 +30,7 @@ pub fn fall(g: Grid, t: &[u16; ENTRIES], h: usize, b: usize, r: usize) -> usize
     requires h_lt_indices { (h < g.indices) × (b < h) × (r < division (shape g) 0) }
     ensures { (y z : Point) → Falls (shape g) y z h b r → position (shape g) y ≡ position (shape g) z + result }
 {
-    let m = g.indices;
-    entry(t, m - 1 - b, r + 1) - entry(t, m - 1 - h, r + 1)
+    entry(t, g.indices - 1 - b, r + 1) - entry(t, g.indices - 1 - h, r + 1)
 }
 
 // The sum of the point's coordinates from each index below m on.
@@ -42,10 +40,8 @@ pub fn tails(y: &[u16; 16], m: usize) -> [u32; 16]
 {
     let mut sums = [0u32; 16];
     let mut last: u32 = 0;
-    let mut k = m;
-    while 0 < k {
-        k -= 1;
-        last += wide16(y[k]) as u32;
+    for k in (0..m).rev() {
+        last += u32::from(y[k]);
         sums[k] = last;
     }
     sums

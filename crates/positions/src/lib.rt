@@ -8,7 +8,7 @@ ghost use Rattle.grid.specs.Made.{shape, IsMade};
 ghost use Rattle.positions.specs.Binomials.{HasBinomials};
 ghost use Rattle.positions.specs.Steps.{after_steps, CanTakeSteps};
 
-use grid::{Grid, wide, wide16};
+use grid::Grid;
 
 mod falls;
 mod ranks;
@@ -27,13 +27,8 @@ pub fn binomials(g: Grid, t: &mut [u16; ENTRIES])
     requires { IsMade g × (length t.old ≡ 1255) }
     ensures { HasBinomials (shape g) t.new }
 {
-    let sizes = g.sizes;
-    let divisions = g.divisions;
-    let blocks = g.blocks;
-    let mut j: usize = 0;
-    while j < blocks {
-        tables::fill_block(t, wide(sizes[j]), wide16(divisions[j]));
-        j += 1;
+    for j in 0..g.blocks {
+        tables::fill_block(t, usize::from(g.sizes[j]), usize::from(g.divisions[j]));
     }
 }
 
@@ -45,24 +40,17 @@ pub fn position(g: Grid, t: &[u16; ENTRIES], y: &[u16; 16], steps: &[u16; 16]) -
         × (is_grid_point (shape g) (take g.indices (after_steps y.now steps.now)) ≡ true) }
     ensures { result ≡ position_of (shape g) (take g.indices (after_steps y.now steps.now)) }
 {
-    let firsts = g.firsts;
-    let sizes = g.sizes;
-    let divisions = g.divisions;
-    let counts = g.counts;
-    let blocks = g.blocks;
     let mut at: usize = 0;
-    let mut j: usize = 0;
-    while j < blocks {
+    for j in 0..g.blocks {
         let rank = ranks::in_block(
             t,
             y,
             steps,
-            wide(firsts[j]),
-            wide(sizes[j]),
-            wide16(divisions[j]),
+            usize::from(g.firsts[j]),
+            usize::from(g.sizes[j]),
+            usize::from(g.divisions[j]),
         );
-        at = at * wide16(counts[j]) + rank;
-        j += 1;
+        at = at * usize::from(g.counts[j]) + rank;
     }
     at
 }

@@ -7,7 +7,6 @@ ghost use Rattle.positions.specs.Steps.{after_steps, CanTakeSteps};
 ghost use Rattle.grid_points.specs.Grid.{at, block_points, position_in};
 
 use crate::{ENTRIES, ROW};
-use grid::wide16;
 
 // With k + 1 numbers to come that add up to left: how many lists have a first number below x.
 fn lists_before(t: &[u16; ENTRIES], k: usize, left: usize, x: usize) -> usize
@@ -16,7 +15,7 @@ fn lists_before(t: &[u16; ENTRIES], k: usize, left: usize, x: usize) -> usize
     ensures { result + choose (left - x + k) k ≡ choose (left + k) k }
 {
     let row = (15 - k) * ROW;
-    wide16(t[row + left]) - wide16(t[row + (left - x)])
+    usize::from(t[row + left]) - usize::from(t[row + (left - x)])
 }
 
 // The block has size coordinates from first on, which add up to division after the steps.
@@ -36,14 +35,11 @@ pub fn in_block(
 {
     let mut rank: usize = 0;
     let mut left = division;
-    let mut i = first;
-    let mut k = size - 1;
-    while 1 < k {
-        let x = wide16(y[i]) + wide16(steps[i]) - 16;
+    let last = first + size - 1;
+    for k in (2..size).rev() {
+        let x = usize::from(y[last - k]) + usize::from(steps[last - k]) - 16;
         rank += lists_before(t, k, left, x);
         left -= x;
-        i += 1;
-        k -= 1;
     }
-    rank + (wide16(y[i]) + wide16(steps[i]) - 16)
+    rank + (usize::from(y[last - 1]) + usize::from(steps[last - 1]) - 16)
 }

@@ -13,8 +13,7 @@ fn entry_before(t: &[u16; ENTRIES], k: usize, r: usize) -> u16
     if k == 2 {
         return (r + 1) as u16;
     }
-    let at = (16 - k) * ROW + r;
-    t[at]
+    t[(16 - k) * ROW + r]
 }
 
 // Row k as far as r = most.
@@ -27,9 +26,7 @@ fn fill_row(t: &mut [u16; ENTRIES], k: usize, most: usize)
     let at = (15 - k) * ROW;
     t[at] = 1;
     let mut last: u16 = 1;
-    let mut r: usize = 0;
-    while r < most {
-        r += 1;
+    for r in 1..=most {
         last += entry_before(t, k, r);
         t[at + r] = last;
     }
@@ -42,9 +39,7 @@ pub fn fill_block(t: &mut [u16; ENTRIES], size: usize, division: usize)
     ensures { (length t.new ≡ 1255) × Keeps t.old t.new
         × HasRows size division t.new }
 {
-    let mut k: usize = 2;
-    while k < size {
+    for k in 2..size {
         fill_row(t, k, division);
-        k += 1;
     }
 }

@@ -11,7 +11,7 @@ ghost use Rattle.printer.specs.Run.{problem_with, loss_problem, run_sheet};
 
 use finder::RunAnswer;
 use grid::Grid;
-use slip::{Losses, SlipReading, Table};
+use slip::{SlipReading, Table};
 use text::SHEET_BYTES;
 
 // The division of each index's block.
@@ -19,13 +19,9 @@ fn divisions_of(grid: Grid) -> [u16; 16]
     requires { IsMade grid }
     ensures { result ≡ padded 16 (index_divisions (shape grid)) }
 {
-    let indices = grid.indices;
-    let block_divisions = grid.divisions;
     let mut divisions = [0u16; 16];
-    let mut h: usize = 0;
-    while h < indices {
-        divisions[h] = block_divisions[grid.block_of(h)];
-        h += 1;
+    for h in 0..grid.indices {
+        divisions[h] = grid.divisions[grid.block_of(h)];
     }
     divisions
 }
@@ -52,19 +48,17 @@ fn print_answer(
             block,
             vertices,
         } => {
-            let indices = grid.indices;
             let divisions = divisions_of(grid);
-            let bound = grid.bound();
             sheet::ended(
                 sheet,
                 places,
                 labels_read,
-                bound,
+                grid.bound(),
                 kind,
                 block,
                 vertices,
                 buffer,
-                &divisions[..indices],
+                &divisions[..grid.indices],
             )
         }
     }
@@ -77,10 +71,9 @@ fn print_run(reading: SlipReading, labels: &[u8], sheet: &mut [u8; SHEET_BYTES])
         sheet.old result sheet.new }
 {
     let grid = reading.grid;
-    let start = reading.start;
-    let indices = grid.indices;
+    let start = &reading.start[..grid.indices];
     let mut buffer = [0u16; 256];
-    let answer = finder::run_on(grid, &start[..indices], labels, &mut buffer, reading.budget);
+    let answer = finder::run_on(grid, start, labels, &mut buffer, reading.budget);
     print_answer(answer, grid, &buffer, sheet)
 }
 
@@ -107,9 +100,8 @@ fn print_labelled(reading: SlipReading, losses: &[u16], sheet: &mut [u8; SHEET_B
     ensures { Prints (run_sheet (loss_problem reading losses.now) reading.budget)
         sheet.old result sheet.new }
 {
-    let points = reading.grid.points;
     let mut labels = [0u8; 60000];
-    label_and_print(reading, losses, &mut labels[..points], sheet)
+    label_and_print(reading, losses, &mut labels[..reading.grid.points], sheet)
 }
 
 // The sheet of a slip with a game or losses. 1,944 losses are the most that a grid has.
@@ -118,7 +110,7 @@ fn print_game(slip: &[u8], reading: SlipReading, sheet: &mut [u8; SHEET_BYTES]) 
     ensures { Prints (sheet_of slip.now) sheet.old result sheet.new }
 {
     let mut losses = [0u16; 1944];
-    let Losses::Count(count) = slip::losses_of(slip, reading, &mut losses) else {
+    let Some(count) = slip::losses_of(slip, reading, &mut losses) else {
         return sheet::refused(sheet, 11);
     };
     print_labelled(reading, &losses[..count], sheet)
@@ -133,9 +125,8 @@ pub fn print(slip: &[u8], sheet: &mut [u8; SHEET_BYTES]) -> usize
     if reading.code != 0 {
         return sheet::refused(sheet, reading.code);
     }
-    let table = reading.table;
-    if let Table::LabelsFrom(_) = table {
-        return print_run(reading, slip::labels_of(slip, reading), sheet);
+    match reading.table {
+        Table::LabelsFrom(_) => print_run(reading, slip::labels_of(slip, reading), sheet),
+        Table::Game(_) | Table::LossesFrom(_) => print_game(slip, reading, sheet),
     }
-    print_game(slip, reading, sheet)
 }

@@ -12,7 +12,7 @@ pub fn centre(total: u64, count: usize, division: u16) -> u64
     ensures { result ≡ centre_of total count division }
 {
     let parts = 10000 * total;
-    let divisor = count as u64 * division as u64;
+    let divisor = count as u64 * u64::from(division);
     let number = parts / divisor;
     let rest = parts - number * divisor;
     if divisor < 2 * rest + number % 2 {

@@ -5,7 +5,7 @@ ghost use Rattle.text.specs.Part.{Part};
 ghost use Rattle.sheet_lines.specs.Sheet.{centre_line, total as total_of};
 
 use rounding::centre;
-use text::{SHEET_BYTES, byte, spaced, text, u64_of};
+use text::{SHEET_BYTES, byte, spaced, text};
 
 // The coordinate sum of the vertices at the index h.
 fn coordinate_sum(count: usize, vertices: &[u16], m: usize, h: usize) -> u64
@@ -14,10 +14,8 @@ fn coordinate_sum(count: usize, vertices: &[u16], m: usize, h: usize) -> u64
     ensures { (result ≡ total_of (rows count m vertices.now) h) × (result ≤ 65535 * count) }
 {
     let mut sum: u64 = 0;
-    let mut k: usize = 0;
-    while k < count {
-        sum += u64_of(vertices[k * m + h]);
-        k += 1;
+    for k in 0..count {
+        sum += u64::from(vertices[k * m + h]);
     }
     sum
 }
@@ -36,12 +34,9 @@ pub fn centre_line(
 {
     let m = divisions.len();
     let mut next = text(out, at, b"centre");
-    let mut h: usize = 0;
-    while h < m {
+    for (h, division) in divisions.iter().enumerate() {
         let sum = coordinate_sum(count, vertices, m, h);
-        let division = divisions[h];
-        next = spaced(out, next, centre(sum, count, division));
-        h += 1;
+        next = spaced(out, next, centre(sum, count, *division));
     }
     byte(out, next, b'\n')
 }

@@ -21,7 +21,7 @@ pub fn refused(out: &mut [u8; SHEET_BYTES], number: u8) -> usize
     ensures { (result ≡ length (refused_sheet number))
         × (out.new ≡ front (refused_sheet number) out.old) }
 {
-    labelled(out, 0, b"refused", number as u64)
+    labelled(out, 0, b"refused", u64::from(number))
 }
 
 // The sheet of refusal 9, the budget spent.
@@ -66,7 +66,7 @@ pub fn ended(
     next = labelled(out, next, b"labels read", labels_read);
     next = labelled(out, next, b"bound", bound);
     next = end_line(out, next, kind);
-    next = labelled(out, next, b"block", block as u64);
+    next = labelled(out, next, b"block", u64::from(block));
     next = labelled(out, next, b"vertices", count as u64);
     next = vertex_lines(out, next, count, vertices, divisions.len());
     centre_line(out, next, count, vertices, divisions)

@@ -1,6 +1,6 @@
 // The lines of the sheet but the centre's. Only this crate calls these functions: each writes into the buffer from a
-// position on, for which there is
-// room, and returns the position behind what it wrote.
+// position on, for which there is room, and returns the
+// position behind what it wrote.
 ghost use mathlib.Core.List.{flat_map};
 ghost use Rattle.std.specs.Prelude.{◌+◌, ◌*◌, ◌≤◌, ◌<◌, length};
 ghost use Rattle.sheet_lines.specs.Answer.{rows};
@@ -8,7 +8,7 @@ ghost use Rattle.text.specs.Part.{Part};
 ghost use Rattle.text.specs.Line.{spaced as spaced_of};
 ghost use Rattle.sheet_lines.specs.Sheet.{vertex_line};
 
-use text::{SHEET_BYTES, byte, decimal, spaced, u64_of};
+use text::{SHEET_BYTES, byte, decimal, spaced};
 
 // The numbers of `row`, each behind a blank.
 fn all_spaced(out: &mut [u8; SHEET_BYTES], at: usize, row: &[u16]) -> usize
@@ -17,10 +17,8 @@ fn all_spaced(out: &mut [u8; SHEET_BYTES], at: usize, row: &[u16]) -> usize
         × (result ≤ at + 96) }
 {
     let mut next = at;
-    let mut i: usize = 0;
-    while i < row.len() {
-        next = spaced(out, next, u64_of(row[i]));
-        i += 1;
+    for number in row {
+        next = spaced(out, next, u64::from(*number));
     }
     next
 }
@@ -30,7 +28,7 @@ fn vertex_line(out: &mut [u8; SHEET_BYTES], at: usize, row: &[u16]) -> usize
     requires { (at ≤ 3500) × (1 ≤ length row.now) × (length row.now ≤ 16) }
     ensures { Part (vertex_line row.now) out.old out.new at result × (result ≤ at + 117) }
 {
-    let mut next = decimal(out, at, u64_of(row[0]));
+    let mut next = decimal(out, at, u64::from(row[0]));
     next = all_spaced(out, next, &row[1..]);
     byte(out, next, b'\n')
 }
@@ -50,11 +48,9 @@ pub fn vertex_lines(
         × (result ≤ at + 117 * count) }
 {
     let mut next = at;
-    let mut k: usize = 0;
-    while k < count {
+    for k in 0..count {
         let start = k * m;
         next = vertex_line(out, next, &vertices[start..start + m]);
-        k += 1;
     }
     next
 }

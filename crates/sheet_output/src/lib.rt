@@ -12,12 +12,6 @@ use text::SHEET_BYTES;
 // that are read alone: one of 13 and 1 to 4 refuses both, or 14 does (`cut_alike` in the printer's proofs).
 pub const SLIP_BYTES: usize = 65536;
 
-fn smaller(a: usize, b: usize) -> usize
-    ensures { (result ≤ a) × (result ≤ b) }
-{
-    if a < b { a } else { b }
-}
-
 // The next bytes to the front of the slip, until it is full or they end: how many there are. A pipe may give fewer at
 // a time than there is room for, though more come.
 fn fill(reader: &mut impl Read, slip: &mut [u8]) -> io::Result<usize>
@@ -40,8 +34,7 @@ fn fill(reader: &mut impl Read, slip: &mut [u8]) -> io::Result<usize>
 pub fn print_sheet(rt: &(impl Input + Print), most: usize) -> io::Result<()> {
     let mut slip = [0u8; SLIP_BYTES];
     let mut sheet = [0u8; SHEET_BYTES];
-    let room = smaller(most, SLIP_BYTES);
-    let length = fill(&mut rt.reader(), &mut slip[..room])?;
+    let length = fill(&mut rt.reader(), &mut slip[..most.min(SLIP_BYTES)])?;
     let written = printer::print(&slip[..length], &mut sheet);
     rt.write_all(&sheet[..written])
 }

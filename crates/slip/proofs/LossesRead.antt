@@ -1,7 +1,7 @@
 -- The losses of a slip that is read, in the room that is lent for them. Assumes nothing.
-use mathlib.Core.Bool.{Bool, true, false, cond}
+use mathlib.Core.Bool.{Bool, true, false}
 use mathlib.Core.List.{List, ◌++◌}
-use mathlib.Core.Path.{◌≡◌, refl, sym, ap, ◌∙◌}
+use mathlib.Core.Path.{◌≡◌, sym, ap, ◌∙◌}
 use Prim.Native.Nat.{ℕ, ◌+◌, ◌*◌, ◌≤◌}
 use lib.ListN.{length, take, drop}
 use native.Mathlib.Nat.{mul-le-mul}
@@ -20,13 +20,14 @@ use Rattle.grid_points.specs.Grid.{num_blocks}
 use Rattle.questions.specs.Questions.{first_no}
 use Rattle.slip_fields.proofs.Laws.{losses-only, losses-last, game-only}
 use Rattle.slip_fields.proofs.Runs.{answers, whole}
-use Rattle.slip.proofs.Readings.{number-zero, reading-accepted}
+use Rattle.slip.proofs.Readings.{number-zero, reading-accepted, then_some_is, told, untold}
 use Rattle.slip.proofs.Tables.{is-game, are-losses}
-use Rattle.slip.specs.declared.Losses.TheVariants.{Count, OutOfRange}
 use Rattle.slip.specs.declared.SlipReading.{SlipReading}
 use Rattle.slip.specs.declared.Table.TheVariants.{Game, LossesFrom}
 use Rattle.slip.specs.Reading.{slip_reading_of, losses_on_slip, table_named, WithLosses}
 use Rattle.slip_fields.specs.Slip.{stands, slip_grid, slip_losses, field_at, slip_question11, slip_read_questions}
+use Rattle.std.proofs.Common.{Some, None}
+use Rattle.std.specs.Bool.{then_some}
 
 module _ (slip : List ℕ) (r : SlipReading) (room : List ℕ) (w : WithLosses slip r room) where
   code : (slip_reading_of slip).code ≡ 0
@@ -46,7 +47,7 @@ module _ (slip : List ℕ) (r : SlipReading) (room : List ℕ) (w : WithLosses s
         let g = is-game slip (answers slip asked).0 number (sym table-named ∙ e) in
         rw (game-only slip (answers slip asked).0 g.0 g.1, g.2)
 
-    pub game-count : Count (length (game_losses number)) ≡ losses_on_slip slip
+    pub game-count : Some (length (game_losses number)) ≡ losses_on_slip slip
     unfolding losses_on_slip
     game-count =
         let g = is-game slip (answers slip asked).0 number (sym table-named ∙ e) in
@@ -99,30 +100,18 @@ module _ (slip : List ℕ) (begin : ℕ) (b : Brought slip begin) where
   pub room-left : (now room : List ℕ) → length room ≡ 1944 → now ≡ front (slip_losses slip) room → length now ≡ 1944
   room-left now room e f = ap length f ∙ front_length (slip_losses slip) room (omega (arith, count-is, b.few)) ∙ e
 
-  pub in_range_lem : (count : ℕ) → all in_range (slip_losses slip) ≡ true → count ≡ num_losses (slip_grid slip)
-      → Count count ≡ losses_on_slip slip
+  pub tested : (test : Bool) (count : ℕ) → test ≡ all in_range (slip_losses slip) → count ≡ num_losses (slip_grid slip)
+      → then_some test count ≡ losses_on_slip slip
   unfolding losses_on_slip
-  in_range_lem count e f = rw (b.there, e, count-is, f)
-
-  pub out_of_range : all in_range (slip_losses slip) ≡ false → OutOfRange ≡ losses_on_slip slip
-  unfolding losses_on_slip
-  out_of_range e = rw (b.there, e)
+  tested test count e f = rw (e, then_some_is, b.there, count-is, f)
 
 -- what the answer tells
 module _ (slip : List ℕ) where
-  counted : (b : Bool) (n m : ℕ) → cond b (Count n) OutOfRange ≡ Count m → (b ≡ true) × (m ≡ n)
-  counted true n m e = (refl, cc)
-  counted false n m e = absurd (let z : ◌≡◌ {A = ℕ} 0 1 = cc in omega arith)
-
-  uncounted : (b : Bool) (n : ℕ) → cond b (Count n) OutOfRange ≡ OutOfRange → b ≡ false
-  uncounted true n e = absurd (let z : ◌≡◌ {A = ℕ} 0 1 = cc in omega arith)
-  uncounted false n e = refl
-
-  pub losses-count : (n : ℕ) → losses_on_slip slip ≡ Count n
+  pub losses-count : (n : ℕ) → losses_on_slip slip ≡ Some n
       → ((slip_question11 slip).answered_yes ≡ true) × (n ≡ length (slip_losses slip))
   unfolding losses_on_slip
-  losses-count n e = counted (slip_question11 slip).answered_yes (length (slip_losses slip)) n e
+  losses-count n e = told (slip_question11 slip).answered_yes (length (slip_losses slip)) n e
 
-  pub losses-refused : losses_on_slip slip ≡ OutOfRange → (slip_question11 slip).answered_yes ≡ false
+  pub losses-refused : losses_on_slip slip ≡ None → (slip_question11 slip).answered_yes ≡ false
   unfolding losses_on_slip
-  losses-refused e = uncounted (slip_question11 slip).answered_yes (length (slip_losses slip)) e
+  losses-refused e = untold (slip_question11 slip).answered_yes (length (slip_losses slip)) e

@@ -8,7 +8,7 @@ use borrow.Author.Tests.{leb-true, leb-false, le-leb, lt-leb, eqb-true, eq-eqb, 
 use lib.Dec.{eqb, leb}
 use lib.ListN.{length, replicate}
 use native.Mathlib.Omega.{arith}
-use Rattle.combinatorics.proofs.Basics.{true_or_false}
+use Rattle.combinatorics.proofs.Basics.{same_or, true_or_false}
 use Rattle.combinatorics.proofs.Fronts.{front_length}
 use Rattle.combinatorics.specs.Front.{padded}
 use Rattle.grid_points.proofs.Accepted.{Accepted, accepted as grid-accepted}
@@ -20,25 +20,30 @@ use Rattle.questions.specs.Questions.{first_no}
 use Rattle.grid_points.specs.Questions.{grid_questions}
 use Rattle.slip_fields.proofs.Laws.{inexact}
 use Rattle.slip_fields.proofs.Runs.{number_is, then_runs}
-use Rattle.slip.specs.declared.Budget.TheVariants.{Is, Missing as NoBudget}
-use Rattle.slip.specs.declared.Field.TheVariants.{EndsAt, Missing}
+use Rattle.slip.specs.declared.Budget.{Budget}
 use Rattle.slip.specs.declared.SlipReading.{SlipReading}
+use Rattle.slip.specs.declared.Start.{Start}
 use Rattle.slip.specs.declared.Table.{Table}
-use Rattle.slip.specs.declared.TableField.TheVariants.{Names, Missing as NoTable}
+use Rattle.std.proofs.Common.{Some, None}
+use Rattle.std.specs.Bool.{then_some}
 use Rattle.slip.specs.Reading.{refused_reading, accepted, slip_reading_of, head_of, start_of, budget_of, table_of}
 use Rattle.slip.specs.Reading.{slip_reading, table_named}
 use Rattle.slip.specs.Reading.{labels_in, Asked}
-use Rattle.slip_fields.specs.Slip.{stands, slip_grid, slip_start, slip_budget, head_length, field_at, label_field}
+use Rattle.slip_fields.specs.Slip.{stands, slip_grid, slip_start, slip_budget, head_length, field_at, fields_end, label_field}
 use Rattle.slip_fields.specs.Slip.{question13, question14, slip_question15, slip_read_questions}
 
 -- what a field answers tells whether its bytes are there
-told : (b : Bool) (x end : ℕ) → cond b (EndsAt x) Missing ≡ EndsAt end → (b ≡ true) × (end ≡ x)
-told true x end e = (refl, cc)
-told false x end e = absurd (let z : ◌≡◌ {A = ℕ} 0 1 = cc in omega arith)
+pub told : {A : Type 0} (b : Bool) (x y : A) → cond b (Some x) None ≡ Some y → (b ≡ true) × (y ≡ x)
+told true x y e = (refl, cc)
+told false x y e = cc
 
-untold : (b : Bool) (x : ℕ) → cond b (EndsAt x) Missing ≡ Missing → b ≡ false
-untold true x e = absurd (let z : ◌≡◌ {A = ℕ} 0 1 = cc in omega arith)
+pub untold : {A : Type 0} (b : Bool) (x : A) → cond b (Some x) None ≡ None → b ≡ false
+untold true x e = cc
 untold false x e = refl
+
+pub then_some_is : {A : Type 0} (b : Bool) (x : A) → then_some b x ≡ cond b (Some x) None
+then_some_is true x = refl
+then_some_is false x = refl
 
 module _ (slip : List ℕ) where
   -- the code is the number of the first question up to 15 that is answered no
@@ -117,92 +122,94 @@ module _ (slip : List ℕ) where
       → slip_reading 0 g start budget t ≡ accepted slip
   parts_say g start budget t e f h i = cc
 
-  pub head-there : (at : ℕ) → head_of slip ≡ EndsAt at → ((question13 slip).answered_yes ≡ true) × (at ≡ head_length slip)
+  pub head-there : (at : ℕ) → head_of slip ≡ Some at → ((question13 slip).answered_yes ≡ true) × (at ≡ head_length slip)
   unfolding head_of
   head-there at e = told (question13 slip).answered_yes (head_length slip) at e
 
-  pub head_missing : head_of slip ≡ Missing → (question13 slip).answered_yes ≡ false
+  pub head_missing : head_of slip ≡ None → (question13 slip).answered_yes ≡ false
   unfolding head_of
   head_missing e = untold (question13 slip).answered_yes (head_length slip) e
 
+  pub head_tested : (test : Bool) (end : ℕ) → test ≡ (question13 slip).answered_yes → end ≡ head_length slip
+      → then_some test end ≡ head_of slip
+  unfolding head_of
+  head_tested test end e f = rw (e, f) (then_some_is (question13 slip).answered_yes (head_length slip))
+
   -- the start's bytes are there, or not
   pub start_is : field_at slip 1 ≤ length slip
-      → start_of slip ≡ record { field = EndsAt (field_at slip 1); start = padded 16 (slip_start slip) }
+      → start_of slip ≡ Some (record { numbers = padded 16 (slip_start slip); end = field_at slip 1 })
   unfolding start_of
   start_is h = rw (le-leb (field_at slip 1) (length slip) h)
 
-  pub no_start : length slip < field_at slip 1 → start_of slip ≡ record { field = Missing; start = replicate 16 0 }
+  pub no_start : length slip < field_at slip 1 → start_of slip ≡ None
   unfolding start_of
   no_start h = rw (lt-leb (field_at slip 1) (length slip) h)
 
-  pub start-there : (end : ℕ) → (start_of slip).field ≡ EndsAt end
-      → (end ≡ field_at slip 1) × (end ≤ length slip) × ((start_of slip).start ≡ padded 16 (slip_start slip))
+  pub start-there : (s : Start) → start_of slip ≡ Some s
+      → (s.end ≡ field_at slip 1) × (s.end ≤ length slip) × (s.numbers ≡ padded 16 (slip_start slip))
   unfolding start_of
-  start-there end e =
-      let t = told (leb (field_at slip 1) (length slip)) (field_at slip 1) end e in
-      (t.1, omega (arith, t.1, leb-true (field_at slip 1) (length slip) t.0), rw t.0)
+  start-there s e =
+      let t = told (leb (field_at slip 1) (length slip)) _ s e in
+      let fits = leb-true (field_at slip 1) (length slip) t.0 in
+      rw t.1 (refl, fits, refl)
 
-  pub start_missing : (start_of slip).field ≡ Missing → (question14 slip).answered_yes ≡ false
+  pub start_missing : start_of slip ≡ None → (question14 slip).answered_yes ≡ false
   unfolding start_of
   start_missing e = inexact slip 1 4 (omega arith)
-      (leb-false (field_at slip 1) (length slip) (untold (leb (field_at slip 1) (length slip)) (field_at slip 1) e))
+      (leb-false (field_at slip 1) (length slip) (untold (leb (field_at slip 1) (length slip)) _ e))
 
   -- and so of the budget
-  pub budget-is : field_at slip 2 ≤ length slip → budget_of slip ≡ Is (slip_budget slip) (field_at slip 2)
+  pub budget-is : field_at slip 2 ≤ length slip
+      → budget_of slip ≡ Some (record { places = slip_budget slip; end = field_at slip 2 })
   unfolding budget_of
   budget-is h = rw (le-leb (field_at slip 2) (length slip) h)
 
-  pub no-budget : length slip < field_at slip 2 → budget_of slip ≡ NoBudget
+  pub no-budget : length slip < field_at slip 2 → budget_of slip ≡ None
   unfolding budget_of
   no-budget h = rw (lt-leb (field_at slip 2) (length slip) h)
 
-  budget_told : (b : Bool) (places end x y : ℕ) → cond b (Is x y) NoBudget ≡ Is places end
-      → (b ≡ true) × (places ≡ x) × (end ≡ y)
-  budget_told true places end x y e = (refl, cc, cc)
-  budget_told false places end x y e = absurd (let z : ◌≡◌ {A = ℕ} 0 1 = cc in omega arith)
-
-  budget_untold : (b : Bool) (x y : ℕ) → cond b (Is x y) NoBudget ≡ NoBudget → b ≡ false
-  budget_untold true x y e = absurd (let z : ◌≡◌ {A = ℕ} 0 1 = cc in omega arith)
-  budget_untold false x y e = refl
-
-  pub budget-there : (places end : ℕ) → budget_of slip ≡ Is places end
-      → (places ≡ slip_budget slip) × (end ≡ field_at slip 2) × (end ≤ length slip)
+  pub budget-there : (b : Budget) → budget_of slip ≡ Some b
+      → (b.places ≡ slip_budget slip) × (b.end ≡ field_at slip 2) × (b.end ≤ length slip)
   unfolding budget_of
-  budget-there places end e =
-      let t = budget_told (leb (field_at slip 2) (length slip)) places end (slip_budget slip) (field_at slip 2) e in
-      (t.1, t.2, omega (arith, t.2, leb-true (field_at slip 2) (length slip) t.0))
+  budget-there b e =
+      let t = told (leb (field_at slip 2) (length slip)) _ b e in
+      let fits = leb-true (field_at slip 2) (length slip) t.0 in
+      rw t.1 (refl, refl, fits)
 
-  pub budget_missing : budget_of slip ≡ NoBudget → (question14 slip).answered_yes ≡ false
+  pub budget_missing : budget_of slip ≡ None → (question14 slip).answered_yes ≡ false
   unfolding budget_of
   budget_missing e = inexact slip 2 3 (omega arith)
-      (leb-false (field_at slip 2) (length slip)
-      (budget_untold (leb (field_at slip 2) (length slip)) (slip_budget slip) (field_at slip 2) e))
+      (leb-false (field_at slip 2) (length slip) (untold (leb (field_at slip 2) (length slip)) _ e))
 
   -- labels, game or losses
-  pub table_is : (question14 slip).answered_yes ≡ true → table_of slip ≡ Names (table_named slip)
+  pub table_is : (question14 slip).answered_yes ≡ true → table_of slip ≡ Some (table_named slip)
   unfolding table_of
   table_is e = rw e
 
-  pub no_table : (question14 slip).answered_yes ≡ false → table_of slip ≡ NoTable
+  -- a test of whether the rest of the slip is the field
+  pub table_tested : (left field : ℕ) (t : Table) → (left ≡ field → length slip ≡ fields_end slip)
+      → (length slip ≡ fields_end slip → left ≡ field)
+      → t ≡ table_named slip
+      → then_some (eqb left field) t ≡ table_of slip
+  unfolding table_of
+  table_tested left field t h g e =
+      ⊎_elim
+      (λ (y : left ≡ field). rw (eq-eqb left field y, eq-eqb (length slip) (fields_end slip) (h y), e))
+      (λ (n : left ≡ field → ⊥). rw (ne_eqb left field n, ne_eqb (length slip) (fields_end slip) (λ z. n (g z))))
+      (same_or left field)
+
+  pub no_table : (question14 slip).answered_yes ≡ false → table_of slip ≡ None
   unfolding table_of
   no_table e = rw e
 
-  table_told : (b : Bool) (t u : Table) → cond b (Names t) NoTable ≡ Names u → (b ≡ true) × (u ≡ t)
-  table_told true t u e = (refl, cc)
-  table_told false t u e = absurd (let z : ◌≡◌ {A = ℕ} 0 1 = cc in omega arith)
-
-  table_untold : (b : Bool) (t : Table) → cond b (Names t) NoTable ≡ NoTable → b ≡ false
-  table_untold true t e = absurd (let z : ◌≡◌ {A = ℕ} 0 1 = cc in omega arith)
-  table_untold false t e = refl
-
-  pub table-there : (t : Table) → table_of slip ≡ Names t
+  pub table-there : (t : Table) → table_of slip ≡ Some t
       → ((question14 slip).answered_yes ≡ true) × (t ≡ table_named slip)
   unfolding table_of
-  table-there t e = table_told (question14 slip).answered_yes (table_named slip) t e
+  table-there t e = told (question14 slip).answered_yes (table_named slip) t e
 
-  pub table_missing : table_of slip ≡ NoTable → (question14 slip).answered_yes ≡ false
+  pub table_missing : table_of slip ≡ None → (question14 slip).answered_yes ≡ false
   unfolding table_of
-  table_missing e = table_untold (question14 slip).answered_yes (table_named slip) e
+  table_missing e = untold (question14 slip).answered_yes (table_named slip) e
 
   -- the struct that the fields are read with
   module _ (grid : GridStruct) (a : Asked slip grid) where

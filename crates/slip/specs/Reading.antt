@@ -1,5 +1,5 @@
 -- What the functions of the crate answer, by document 01's definitions. Assumes nothing.
-use Rattle.std.specs.Prelude.{true, false, cond, List, [], ◌≡◌, ℕ, eqb, leb, length, drop, replicate}
+use Rattle.std.specs.Prelude.{true, false, cond, List, [], Option, Some, None, ◌≡◌, ℕ, eqb, leb, length, drop, replicate}
 use Rattle.grid.specs.declared.Grid.{Grid as GridStruct}
 use Rattle.combinatorics.specs.Front.{padded}
 use Rattle.grid.specs.Made.{grid_of, no_grid}
@@ -10,34 +10,26 @@ use Rattle.slip_fields.specs.Slip.{slip_read_questions}
 use Rattle.slip_fields.specs.Slip.{head_length}
 use Rattle.slip_fields.specs.Slip.{slip_question11, question13, question14}
 use Rattle.slip.specs.declared.Budget.{Budget}
-use Rattle.slip.specs.declared.Budget.TheVariants.{Is, Missing as NoBudget}
-use Rattle.slip.specs.declared.Field.{Field}
-use Rattle.slip.specs.declared.Field.TheVariants.{EndsAt, Missing}
-use Rattle.slip.specs.declared.Losses.{Losses}
-use Rattle.slip.specs.declared.Losses.TheVariants.{Count, OutOfRange}
 use Rattle.slip.specs.declared.SlipReading.{SlipReading}
 use Rattle.slip.specs.declared.Start.{Start}
 use Rattle.slip.specs.declared.Table.{Table}
 use Rattle.slip.specs.declared.Table.TheVariants.{LabelsFrom, Game, LossesFrom}
-use Rattle.slip.specs.declared.TableField.{TableField}
-use Rattle.slip.specs.declared.TableField.TheVariants.{Names, Missing as NoTable}
 
 -- map, N, sizes and divisions as a field: the position behind them, unless question 13 is answered no
-unfoldable pub head_of : List ℕ → Field
-head_of slip = cond (question13 slip).answered_yes (EndsAt (head_length slip)) Missing
+unfoldable pub head_of : List ℕ → Option ℕ
+head_of slip = cond (question13 slip).answered_yes (Some (head_length slip)) None
 
 -- the start where its bytes are there, and the position behind them
-unfoldable pub start_of : List ℕ → Start
+unfoldable pub start_of : List ℕ → Option Start
 start_of slip =
-    let fits = leb (field_at slip 1) (length slip) in
-    record {
-      field = cond fits (EndsAt (field_at slip 1)) Missing;
-      start = cond fits (padded 16 (slip_start slip)) (replicate 16 0);
-    }
+    cond (leb (field_at slip 1) (length slip))
+    (Some (record { numbers = padded 16 (slip_start slip); end = field_at slip 1 })) None
 
 -- the budget where its bytes are there, and the position behind them
-unfoldable pub budget_of : List ℕ → Budget
-budget_of slip = cond (leb (field_at slip 2) (length slip)) (Is (slip_budget slip) (field_at slip 2)) NoBudget
+unfoldable pub budget_of : List ℕ → Option Budget
+budget_of slip =
+    cond (leb (field_at slip 2) (length slip))
+    (Some (record { places = slip_budget slip; end = field_at slip 2 })) None
 
 -- the one of labels, game and losses that the map names
 abbrev pub table_named : List ℕ → Table
@@ -45,8 +37,8 @@ table_named slip = cond (stands slip 2) (LabelsFrom (field_at slip 2))
     (cond (stands slip 3) (Game (slip_game slip)) (LossesFrom (field_at slip 4)))
 
 -- unless question 14 is answered no
-unfoldable pub table_of : List ℕ → TableField
-table_of slip = cond (question14 slip).answered_yes (Names (table_named slip)) NoTable
+unfoldable pub table_of : List ℕ → Option Table
+table_of slip = cond (question14 slip).answered_yes (Some (table_named slip)) None
 
 abbrev pub slip_reading : ℕ → GridStruct → List ℕ → ℕ → Table → SlipReading
 slip_reading code grid start budget table = record {
@@ -77,8 +69,8 @@ labels_in slip (Game number) = []
 labels_in slip (LossesFrom begin) = []
 
 -- question 11 of a slip with a game or losses, and how many losses there are
-unfoldable pub losses_on_slip : List ℕ → Losses
-losses_on_slip slip = cond (slip_question11 slip).answered_yes (Count (length (slip_losses slip))) OutOfRange
+unfoldable pub losses_on_slip : List ℕ → Option ℕ
+losses_on_slip slip = cond (slip_question11 slip).answered_yes (Some (length (slip_losses slip))) None
 
 -- where the fields are read: questions 13 and 1 to 4 are answered yes, and the struct is the slip's grid
 pub record Asked (slip : List ℕ) (grid : GridStruct) : Type 0 where

@@ -9,29 +9,22 @@ ghost use Rattle.slip.specs.Reading.{refused_reading, slip_reading_of, table_nam
 ghost use Rattle.slip.specs.Reading.{WithLosses};
 ghost use Rattle.slip_fields.specs.Slip.{slip_grid, slip_losses, head_length, num_blocks_of, question13, slip_question15};
 
-use grid::{Grid, Made, wide};
+use grid::{Grid, Made};
 
 mod fields;
-
-// The position behind a field, or that its bytes are not there.
-#[derive(Clone, Copy)]
-pub enum Field {
-    EndsAt(usize),
-    Missing,
-}
 
 // The start's numbers at the front, 0 behind, and the position behind the field.
 #[derive(Clone, Copy)]
 pub struct Start {
-    pub field: Field,
-    pub start: [u16; 16],
+    pub numbers: [u16; 16],
+    pub end: usize,
 }
 
-// The budget and the position behind the field, or that its bytes are not there.
+// The budget and the position behind the field.
 #[derive(Clone, Copy)]
-pub enum Budget {
-    Is { places: u64, end: usize },
-    Missing,
+pub struct Budget {
+    pub places: u64,
+    pub end: usize,
 }
 
 // What stands at the end of a slip: labels or losses from a position on, or the number of a game.
@@ -40,13 +33,6 @@ pub enum Table {
     LabelsFrom(usize),
     Game(u8),
     LossesFrom(usize),
-}
-
-// The table that the map names, or that the remaining bytes are not exactly its field.
-#[derive(Clone, Copy)]
-pub enum TableField {
-    Names(Table),
-    Missing,
 }
 
 // What a slip says, or the number of the question answered no beside zeros.
@@ -58,13 +44,6 @@ pub struct SlipReading {
     pub start: [u16; 16],
     pub budget: u64,
     pub table: Table,
-}
-
-// How many losses a slip has, or that question 11 is answered no.
-#[derive(Clone, Copy)]
-pub enum Losses {
-    Count(usize),
-    OutOfRange,
 }
 
 fn refused(code: u8) -> SlipReading
@@ -94,7 +73,7 @@ fn grid_of(slip: &[u8]) -> Made
     requires { head_length slip.now ≤ length slip.now }
     ensures { result ≡ made_of (slip_grid slip.now) }
 {
-    let blocks = wide(slip[1]);
+    let blocks = usize::from(slip[1]);
     let mut divisions = [0u16; 255];
     grid_in(slip, &mut divisions[..blocks])
 }
@@ -107,7 +86,7 @@ fn is_known(slip: &[u8], table: Table) -> bool
     let Table::Game(number) = table else {
         return true;
     };
-    let end = 2 + wide(slip[1]);
+    let end = 2 + usize::from(slip[1]);
     game_built_in::is_game(number, &slip[2..end])
 }
 
@@ -116,26 +95,25 @@ fn read_fields(slip: &[u8], at: usize, grid: Grid) -> SlipReading
     requires { Asked slip.now grid × (at ≡ head_length slip.now) }
     ensures { result ≡ slip_reading_of slip.now }
 {
-    let read = fields::start(slip, at, grid);
-    let field = read.field;
-    let Field::EndsAt(behind) = field else {
+    let Some(start) = fields::start(slip, at, grid) else {
         return refused(14);
     };
-    let Budget::Is { places, end } = fields::budget(slip, behind, grid) else {
+    let Some(budget) = fields::budget(slip, start.end, grid) else {
         return refused(14);
     };
-    let TableField::Names(table) = fields::table(slip, end, grid) else {
+    let Some(table) = fields::table(slip, budget.end, grid) else {
         return refused(14);
     };
     if !is_known(slip, table) {
         return refused(15);
     }
-    let start = read.start;
+    // An array in a field is copied by way of a variable.
+    let numbers = start.numbers;
     SlipReading {
         code: 0,
         grid,
-        start,
-        budget: places,
+        start: numbers,
+        budget: budget.places,
         table,
     }
 }
@@ -144,56 +122,47 @@ fn read_fields(slip: &[u8], at: usize, grid: Grid) -> SlipReading
 pub fn read(slip: &[u8]) -> SlipReading
     ensures { result ≡ slip_reading_of slip.now }
 {
-    let Field::EndsAt(at) = fields::head(slip) else {
+    let Some(at) = fields::head(slip) else {
         return refused(13);
     };
     let made = grid_of(slip);
-    let code = made.code;
-    if code != 0 {
-        return refused(code);
+    if made.code != 0 {
+        return refused(made.code);
     }
-    let grid = made.grid;
-    read_fields(slip, at, grid)
+    read_fields(slip, at, made.grid)
 }
 
 // The part of the slip where a reading has the labels.
 pub fn labels_of(slip: &[u8], reading: SlipReading) -> &[u8]
     ensures { result.now ≡ labels_in slip.now reading.table }
 {
-    let table = reading.table;
-    let Table::LabelsFrom(begin) = table else {
-        return &slip[0..0];
+    let Table::LabelsFrom(begin) = reading.table else {
+        return &[];
     };
-    if slip.len() < begin {
-        return &slip[0..0];
-    }
-    &slip[begin..]
+    slip.get(begin..).unwrap_or(&[])
 }
 
-// The losses that are brought, to the front of the room, and question 11.
-fn brought(slip: &[u8], begin: usize, reading: SlipReading, room: &mut [u16]) -> Losses
+// The losses that are brought, to the front of the room, and question 11: how many they are, if it is answered yes.
+fn brought(slip: &[u8], begin: usize, reading: SlipReading, room: &mut [u16]) -> Option<usize>
     requires { WithLosses slip.now reading room.old × (reading.table ≡ Table.LossesFrom begin) }
     ensures value { result ≡ losses_on_slip slip.now }
     ensures room_after { room.new ≡ front (slip_losses slip.now) room.old }
 {
     let count = (slip.len() - begin) / 2;
     little_endian::words(slip, begin, &mut room[..count]);
-    if !game_losses::in_range(&room[..count]) {
-        return Losses::OutOfRange;
-    }
-    Losses::Count(count)
+    game_losses::in_range(&room[..count]).then_some(count)
 }
 
-// The losses of a slip with a game or losses, to the front of the room, and question 11.
-pub fn losses_of(slip: &[u8], reading: SlipReading, room: &mut [u16]) -> Losses
+// The losses of a slip with a game or losses, to the front of the room, and question 11: how many they are, if it is
+// answered yes.
+pub fn losses_of(slip: &[u8], reading: SlipReading, room: &mut [u16]) -> Option<usize>
     requires { WithLosses slip.now reading room.old }
     ensures value { result ≡ losses_on_slip slip.now }
     ensures room_after { room.new ≡ front (slip_losses slip.now) room.old }
 {
-    let table = reading.table;
-    match table {
-        Table::Game(number) => Losses::Count(game_built_in::put_losses(number, room)),
+    match reading.table {
+        Table::Game(number) => Some(game_built_in::put_losses(number, room)),
         Table::LossesFrom(begin) => brought(slip, begin, reading, room),
-        _ => Losses::OutOfRange,
+        Table::LabelsFrom(_) => None,
     }
 }

@@ -24,14 +24,8 @@ pub fn text(out: &mut [u8], at: usize, bytes: &[u8]) -> usize
     requires { at + length bytes.now ≤ length out.old }
     ensures { Part bytes.now out.old out.new at result }
 {
-    let mut next = at;
-    let mut i: usize = 0;
-    while i < bytes.len() {
-        out[next] = bytes[i];
-        next += 1;
-        i += 1;
-    }
-    next
+    out[at..at + bytes.len()].copy_from_slice(bytes);
+    at + bytes.len()
 }
 
 // The digits of a number. It calls itself for those before the last, so it is at most 20 deep.
@@ -63,8 +57,8 @@ pub fn labelled(out: &mut [u8; SHEET_BYTES], at: usize, word: &[u8], n: u64) -> 
     ensures { Part (line word.now n) out.old out.new at result
         × (result ≤ at + 38) × (length out.old ≡ 4096) }
 {
-    let mut next = text(out, at, word);
-    next = spaced(out, next, n);
+    let next = text(out, at, word);
+    let next = spaced(out, next, n);
     byte(out, next, b'\n')
 }
 
@@ -72,5 +66,5 @@ pub fn labelled(out: &mut [u8; SHEET_BYTES], at: usize, word: &[u8], n: u64) -> 
 pub fn u64_of(x: u16) -> u64
     ensures { (result ≡ x) × (result ≤ 65535) }
 {
-    x as u64
+    u64::from(x)
 }

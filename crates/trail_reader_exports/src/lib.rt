@@ -7,24 +7,23 @@ ghost use Rattle.place.specs.Problem.{problem_of};
 ghost use Rattle.trail_reader.specs.Reading.{read_answer, read_points};
 ghost use Rattle.trail_reader_exports.specs.Read.{place_facts, read_number};
 
+use trail_reader::ReadAnswer;
+
 // The number of points, T, U and the labels read to the front of their buffer, where a place is rebuilt.
-fn put_place(found: trail_reader::ReadAnswer, place: &mut [u64]) -> u8
+fn put_place(found: ReadAnswer, place: &mut [u64]) -> u8
     requires { 4 ≤ length place.old }
     ensures number { result ≡ read_number found }
     ensures place { place.new ≡ front (place_facts found) place.old }
 {
     match found {
-        trail_reader::ReadAnswer::Refused(number) => number,
-        trail_reader::ReadAnswer::Place {
+        ReadAnswer::Refused(number) => number,
+        ReadAnswer::Place {
             points: count,
             t,
             u,
             labels_read,
         } => {
-            place[0] = count as u64;
-            place[1] = t as u64;
-            place[2] = u as u64;
-            place[3] = labels_read;
+            place[..4].copy_from_slice(&[count as u64, u64::from(t), u64::from(u), labels_read]);
             0
         }
     }
@@ -56,6 +55,5 @@ pub fn leveretplate_read_trail(
     let reading = trail_reader::read(sizes, divisions, start, trail, record_number, *points);
     let numbers = reading.points;
     *points = numbers;
-    let found = reading.answer;
-    put_place(found, place)
+    put_place(reading.answer, place)
 }

@@ -14,21 +14,9 @@ use finder::{RunAnswer, put_answer};
 fn bytes_written(found: trail_writer::TrailAnswer, old: u64) -> u64
     ensures { result ≡ bytes_written found old }
 {
-    let run = found.run;
-    match run {
-        RunAnswer::Refused(_) => old,
-        RunAnswer::Spent(_) => old,
-        RunAnswer::Unknown {
-            places: _,
-            position: _,
-        } => old,
-        RunAnswer::End {
-            places: _,
-            labels_read: _,
-            kind: _,
-            block: _,
-            vertices: _,
-        } => found.bytes as u64,
+    match found.run {
+        RunAnswer::Refused(_) | RunAnswer::Spent(_) | RunAnswer::Unknown { .. } => old,
+        RunAnswer::End { .. } => found.bytes as u64,
     }
 }
 
@@ -68,6 +56,5 @@ pub fn leveretplate_run_with_trail(
         sizes, divisions, start, labels, answer, trail, budget,
     );
     *bytes = bytes_written(found, *bytes);
-    let run = found.run;
-    put_answer(run, facts)
+    put_answer(found.run, facts)
 }

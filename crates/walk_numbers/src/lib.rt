@@ -7,7 +7,6 @@ ghost use Rattle.walk_preview.specs.Changes.{no_change};
 ghost use Rattle.walk_numbers.specs.Answered.{after_beginning, after_moving, after_pointing};
 ghost use Rattle.walk_numbers.specs.Answered.{after_showing, answered_by, unanswered};
 
-use end_kinds::kind_number;
 use walk_calls::{Call, moved};
 use walk_places::Walk;
 use walk_preview::{Change, Shown, preview};
@@ -65,7 +64,7 @@ fn answered_by(walk: Walk, answer: WalkAnswer, simplex: [u16; 256], change: Chan
             fields,
             simplex,
             number: 0,
-            kind: kind_number(kind),
+            kind: u8::from(kind),
             block,
             rule: 0,
             map,

@@ -5,4 +5,4 @@ use Rattle.little_endian.proofs.word.Goals as goal
 
 pub returns : goal.returns
 unfolding number
-returns c = omega arith
+returns c = omega (arith, c.from_le_bytes.ensures)

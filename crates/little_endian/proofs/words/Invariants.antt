@@ -2,16 +2,11 @@
 -- Assumes nothing.
 use mathlib.Core.List.{map}
 use mathlib.Core.Path.{◌≡◌}
-use Prim.Native.Nat.{◌+◌, ◌*◌, ◌≤◌, ◌-◌}
-use lib.ListN.{length}
+use Prim.Native.Nat.{◌+◌, ◌*◌}
 use Rattle.combinatorics.specs.Front.{front}
 use Rattle.combinatorics.specs.Lists.{up_from}
 use Rattle.little_endian.specs.Numbers.{number}
 use Rattle.little_endian.proofs.words.Given as goal
 
 abbrev pub invariant-loop-i : goal.invariant-loop-i
-invariant-loop-i l = (l.room ≡ front (map (λ k. number 2 l.bytes (l.from + 2 * k)) (up_from 0 l.i)) l.initial.room)
-    × (l.i ≤ length l.initial.room) × (length l.room ≡ length l.initial.room) × (l.from + 2 * length l.initial.room ≤ length l.bytes)
-
-abbrev pub decreases-loop-i : goal.decreases-loop-i
-decreases-loop-i l = length l.initial.room - l.i
+invariant-loop-i l = l.room ≡ front (map (λ k. number 2 l.bytes (l.from + 2 * k)) (up_from 0 l.i)) l.initial.room

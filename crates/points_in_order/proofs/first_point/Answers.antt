@@ -3,7 +3,6 @@ use mathlib.Core.Path.{◌≡◌, sym, ◌∙◌}
 use Prim.Native.Nat.{◌+◌, ◌≤◌}
 use native.Mathlib.Omega.{arith}
 use lib.ListN.{take, replicate}
-use lib.Seq.{take_all}
 use Rattle.combinatorics.proofs.Fronts.{front-none}
 use Rattle.combinatorics.specs.Lists.{sum}
 use Rattle.grid_points.proofs.Accepted.{accepted, size-two}
@@ -11,58 +10,36 @@ use Rattle.grid_points.proofs.Round.{block-fits}
 use Rattle.grid_points.specs.Grid.{lent}
 use Rattle.points_in_order.proofs.PointAfter.{first_turn}
 use Rattle.points_in_order.proofs.first_point.Goals as goal
-use Rattle.points_in_order.proofs.first_point.Goals.{After-wide-in-loop-j}
+use Rattle.points_in_order.proofs.first_point.Goals.{After-from-in-loop-j}
 
 -- the last index of a turn's block
-last-is : (c : After-wide-in-loop-j)
-    → (c.wide.result
+last-is : (c : After-from-in-loop-j)
+    → (c.from.result
     ≡ sum (take c.loop-j.j
     c.args.sizes.now))
-    × (1 ≤ c.wide.result + c.wide-in-loop-j.result)
-    × (c.wide.result + c.wide-in-loop-j.result ≤ 16)
+    × (1 ≤ c.from.result + c.from-in-loop-j.result)
+    × (c.from.result + c.from-in-loop-j.result ≤ 16)
 last-is c =
     let l = c.loop-j in
     let g = lent c.args.sizes.now c.args.divisions.now in
-    let e : c.wide.result ≡ sum (take l.j c.args.sizes.now) =
-    c.wide.ensures ∙ c.requires.0.first l.j (omega arith) in
-    let t = (size-two g l.invariant.2 l.j (omega arith)).0 in
-    (e, omega arith, omega (arith, block-fits c.args.sizes.now l.j, l.invariant.2.few_indices))
+    let e : c.from.result ≡ sum (take l.j c.args.sizes.now) =
+    c.from.ensures ∙ c.requires.0.first l.j (omega arith) in
+    let t = (size-two g l.invariant.1 l.j (omega arith)).0 in
+    (e, omega arith, omega (arith, block-fits c.args.sizes.now l.j, l.invariant.1.few_indices))
 
 pub loop-j-init : goal.loop-j-init
 loop-j-init c = (
   c.requires.1 ∙ sym (front-none (replicate 16 0)),
-  omega arith,
   accepted (lent c.args.sizes.now c.args.divisions.now) c.requires.0.accepted,
 )
 
-pub bounds-firsts-j : goal.bounds-firsts-j
-bounds-firsts-j c = omega (arith, c.loop-j.invariant.2.few_blocks)
-
-pub overflow_add-last : goal.overflow_add-last
-overflow_add-last c = omega (arith, last-is c)
-
-pub overflow_sub-last : goal.overflow_sub-last
-overflow_sub-last c = omega (arith, last-is c)
-
-pub offset_bounds-point-last : goal.offset_bounds-point-last
-offset_bounds-point-last c = omega (arith, last-is (goal.at.offset_bounds-point-last c).After-wide-in-loop-j)
-
 pub bounds-point-last : goal.bounds-point-last
-bounds-point-last c = omega (arith, last-is (goal.at.bounds-point-last c).After-wide-in-loop-j)
+bounds-point-last c = omega (arith, last-is (goal.at.bounds-point-last c).After-from-in-loop-j)
 
 pub loop-j-preserved : goal.loop-j-preserved
 loop-j-preserved c =
     let l = c.loop-j in (
-      rw (l.invariant.0, (last-is (goal.at.loop-j-preserved c).After-wide-in-loop-j).0, c.wide-in-loop-j.ensures)
-          (first_turn c.args.sizes.now c.args.divisions.now l.j l.invariant.2 (omega arith)),
-      omega arith,
-      l.invariant.2,
+      rw (l.invariant.0, (last-is (goal.at.loop-j-preserved c).After-from-in-loop-j).0, c.from-in-loop-j.ensures)
+          (first_turn c.args.sizes.now c.args.divisions.now l.j l.invariant.1 (omega arith)),
+      l.invariant.1,
     )
-
-pub returns : goal.returns
-returns c =
-    let l = c.loop-j in
-    rw (
-      take_all l.j c.args.sizes.now (omega arith),
-      take_all l.j c.args.divisions.now (omega (arith, l.invariant.2.same_number)),
-    ) at l.invariant.0

@@ -1,7 +1,6 @@
 -- `first_point` meets its contract: the blocks passed have their divisions at their last indices. Assumes nothing.
 use mathlib.Core.Path.{◌≡◌}
-use Prim.Native.Nat.{◌-◌, ◌≤◌}
-use lib.ListN.{length, take, replicate}
+use lib.ListN.{take, replicate}
 use Rattle.combinatorics.specs.Front.{front}
 use Rattle.grid_points.proofs.Accepted.{Accepted}
 use Rattle.grid_points.specs.Grid.{lent}
@@ -10,8 +9,5 @@ use Rattle.points_in_order.proofs.first_point.Given as goal
 
 abbrev pub invariant-loop-j : goal.invariant-loop-j
 invariant-loop-j l =
-    (l.point ≡ front (first_point (take l.j l.sizes) (take l.j l.divisions)) (replicate 16 0)) × (l.j ≤ length l.sizes)
+    (l.point ≡ front (first_point (take l.j l.sizes) (take l.j l.divisions)) (replicate 16 0))
     × Accepted (lent l.sizes l.divisions)
-
-abbrev pub decreases-loop-j : goal.decreases-loop-j
-decreases-loop-j l = length l.sizes - l.j

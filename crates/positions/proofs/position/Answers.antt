@@ -16,7 +16,7 @@ use Rattle.grid.specs.Made.{shape}
 use Rattle.positions.specs.Steps.{after_steps}
 use native.Mathlib.Omega.{arith}
 use Rattle.positions.proofs.position.Goals as goal
-use Rattle.positions.proofs.position.Goals.{After-wide16-in-loop-j, Start}
+use Rattle.positions.proofs.position.Goals.{After-from-in-loop-j-3, Start}
 
 -- the coordinates after the steps
 abbrev stepped : Start → List ℕ
@@ -39,15 +39,15 @@ same c j =
     (block-fits (shape s).sizes j)
 
 -- one block more
-next : (c : After-wide16-in-loop-j)
+next : (c : After-from-in-loop-j-3)
     → Horner
     (shape c.args.g)
     (take
     (num_indices
     (shape c.args.g))
-    (stepped (goal.at.After-wide16-in-loop-j c).Start))
+    (stepped (goal.at.After-from-in-loop-j-3 c).Start))
     (c.loop-j.j + 1)
-    (c.loop-j.at * c.wide16-in-loop-j.result + c.in_block-rank.result)
+    (c.loop-j.at * c.from-in-loop-j-3.result + c.in_block-rank.result)
 next c =
     let s = c.args.g in
     let m = c.requires.made.0 in
@@ -57,27 +57,27 @@ next c =
     let is_division = made-division s m l.j (omega arith) in
     let q : c.in_block-rank.result
     ≡ position_in (block_points (size (shape s) l.j) (division (shape s) l.j))
-    (map (coordinate (take (num_indices (shape s)) (stepped (goal.at.After-wide16-in-loop-j c).Start))) (indices_of (shape s) l.j)) =
+    (map (coordinate (take (num_indices (shape s)) (stepped (goal.at.After-from-in-loop-j-3 c).Start))) (indices_of (shape s) l.j)) =
     c.in_block-rank.ensures
     ∙ rw (
-      same (goal.at.After-wide16-in-loop-j c).Start l.j,
-      c.wide.ensures,
-      c.wide-in-loop-j.ensures,
-      c.wide16.ensures.0,
+      same (goal.at.After-from-in-loop-j-3 c).Start l.j,
+      c.from.ensures,
+      c.from-in-loop-j.ensures,
+      c.from-in-loop-j-2.ensures,
       is_first,
       is_size,
       is_division,
     ) in
-    rw (q, c.wide16-in-loop-j.ensures.0, made-count s m l.j (omega arith))
-    (horner_next (shape s) _ (made-accepted s m) (point (goal.at.After-wide16-in-loop-j c).Start) l.j l.at (omega (arith, made-blocks s m)) l.invariant.0)
+    rw (q, c.from-in-loop-j-3.ensures, made-count s m l.j (omega arith))
+    (horner_next (shape s) _ (made-accepted s m) (point (goal.at.After-from-in-loop-j-3 c).Start) l.j l.at (omega (arith, made-blocks s m)) l.invariant.0)
 
-few : (c : After-wide16-in-loop-j)
-    → c.loop-j.at * c.wide16-in-loop-j.result + c.in_block-rank.result
+few : (c : After-from-in-loop-j-3)
+    → c.loop-j.at * c.from-in-loop-j-3.result + c.in_block-rank.result
     ≤ 60000
 few c =
     let s = c.args.g in
     let m = c.requires.made.0 in
-    horner_few (shape s) _ (made-accepted s m) (point (goal.at.After-wide16-in-loop-j c).Start)
+    horner_few (shape s) _ (made-accepted s m) (point (goal.at.After-from-in-loop-j-3 c).Start)
     (c.loop-j.j + 1) _ (omega (arith, made-blocks s m)) (next c)
 
 pub loop-j-init : goal.loop-j-init
@@ -85,7 +85,6 @@ loop-j-init c =
     let s = c.args.g in
     let m = c.requires.made.0 in (
       horner_start (shape s) _ (made-accepted s m) (point (goal.at.loop-j-init c).Start),
-      omega arith,
       (blocks-range s m).1,
     )
 
@@ -99,9 +98,9 @@ in_block-rank-requires c =
     let is_division = made-division s m j (omega arith) in
     let n : j < num_blocks (shape s) = omega (arith, made-blocks s m) in
     rw (
-      c.wide.ensures,
-      c.wide-in-loop-j.ensures,
-      c.wide16.ensures.0,
+      c.from.ensures,
+      c.from-in-loop-j.ensures,
+      c.from-in-loop-j-2.ensures,
       is_first,
       is_size,
       is_division,
@@ -119,13 +118,13 @@ in_block-rank-requires c =
     }
 
 pub overflow_mul-at : goal.overflow_mul-at
-overflow_mul-at c = omega (arith, few c)
+overflow_mul-at c = omega (arith, few (goal.at.overflow_mul-at c).After-from-in-loop-j-3)
 
 pub overflow_add-at : goal.overflow_add-at
-overflow_add-at c = omega (arith, few c)
+overflow_add-at c = omega (arith, few (goal.at.overflow_add-at c).After-from-in-loop-j-3)
 
 pub loop-j-preserved : goal.loop-j-preserved
-loop-j-preserved c = (next c, omega arith, c.loop-j.invariant.2)
+loop-j-preserved c = (next (goal.at.loop-j-preserved c).After-from-in-loop-j-3, c.loop-j.invariant.1)
 
 pub returns : goal.returns
 returns c =

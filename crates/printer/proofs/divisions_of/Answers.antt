@@ -14,10 +14,7 @@ use Rattle.printer.proofs.divisions_of.Goals as goal
 use Rattle.printer.proofs.divisions_of.Goals.{After-block_of}
 
 pub loop-h-init : goal.loop-h-init
-loop-h-init c = (sym (front-none (replicate 16 0)), omega arith, indices-few c.args.grid c.requires)
-
-pub block_of-requires : goal.block_of-requires
-block_of-requires c = (c.requires, omega arith)
+loop-h-init c = (sym (front-none (replicate 16 0)), indices-few c.args.grid c.requires)
 
 -- the block of the index is one of the grid's
 inside : (c : After-block_of)
@@ -28,21 +25,20 @@ inside c =
     rw c.block_of.ensures
     (omega (arith, b, made-blocks g c.requires), omega (arith, b, made-blocks g c.requires, (blocks-range g c.requires).1))
 
-pub offset_bounds-block_divisions-block_of : goal.offset_bounds-block_divisions-block_of
-offset_bounds-block_divisions-block_of c = omega (arith, (inside c).1)
+pub offset_bounds-grid-block_of : goal.offset_bounds-grid-block_of
+offset_bounds-grid-block_of c = omega (arith, (inside c).1)
 
-pub bounds-block_divisions-block_of : goal.bounds-block_divisions-block_of
-bounds-block_divisions-block_of c = (inside c).1
+pub bounds-grid-block_of : goal.bounds-grid-block_of
+bounds-grid-block_of c = (inside c).1
 
 pub loop-h-preserved : goal.loop-h-preserved
 loop-h-preserved c =
     let l = c.loop-h in
     let g = shape c.args.grid in
-    let d = made-division c.args.grid c.requires c.block_of.result (inside c).0 in (
+    let d = made-division c.args.grid c.requires c.block_of.result (inside (goal.at.loop-h-preserved c).After-block_of).0 in (
       rw (l.invariant.0, d, c.block_of.ensures)
           (front-counted (λ h. division g (block_of g h)) (replicate 16 0) l.h (omega arith)),
-      omega arith,
-      l.invariant.2,
+      l.invariant.1,
     )
 
 pub returns : goal.returns

@@ -2,7 +2,7 @@
 -- Assumes nothing.
 use mathlib.Core.List.{map}
 use mathlib.Core.Path.{◌≡◌}
-use Prim.Native.Nat.{◌≤◌, ◌-◌}
+use Prim.Native.Nat.{◌≤◌}
 use Rattle.combinatorics.specs.Lists.{up_from}
 use Rattle.combinatorics.specs.Front.{padded}
 use Rattle.grid_points.specs.Grid.{division, block_of}
@@ -11,8 +11,5 @@ use Rattle.printer.proofs.divisions_of.Given as goal
 
 abbrev pub invariant-loop-h : goal.invariant-loop-h
 invariant-loop-h l =
-    (l.divisions ≡ padded 16 (map (λ k. division (shape l.grid) (block_of (shape l.grid) k)) (up_from 0 l.h))) × (l.h ≤ l.indices)
-    × (l.indices ≤ 16)
-
-abbrev pub decreases-loop-h : goal.decreases-loop-h
-decreases-loop-h l = l.indices - l.h
+    (l.divisions ≡ padded 16 (map (λ k. division (shape l.grid) (block_of (shape l.grid) k)) (up_from 0 l.h)))
+    × (l.grid.indices ≤ 16)

@@ -1,4 +1,5 @@
 -- `printer::print` meets its contract, for every slip. Assumes nothing.
+use mathlib.Core.Logic.{⊎_elim}
 use mathlib.Core.Path.{◌≡◌, sym, ap, ◌∙◌}
 use Rattle.slip.proofs.Readings.{reading-accepted}
 use Rattle.slip.proofs.Tables.{are-labels, no-labels}
@@ -43,8 +44,9 @@ print_game-requires c =
       is_reading = is;
       read = c.if-reading-ne0.false;
       no_labels =
-          no-labels slip c.read-reading.result.table c.in_default.not-LabelsFrom named;
+          no-labels slip c.read-reading.result.table
+          (λ begin e. ⊎_elim (λ z. let g = z.1 in cc) (λ z. let g = z.1 in cc) c.in-Game.is) named;
     }
 
-pub returns : goal.returns
-returns c = (c.print_game.ensures.counted, c.print_game.ensures.stands)
+pub returns-in-Game : goal.returns-in-Game
+returns-in-Game c = (c.print_game.ensures.counted, c.print_game.ensures.stands)

@@ -36,5 +36,5 @@ pub returns-in-End : goal.returns-in-End
 unfolding printed
 returns-in-End c =
     let e = end-printed c.args.grid c.requires.0 _ c.divisions_of-divisions.ensures
-    c.in-End.vertices c.args.buffer.now _ _ _ _ _ c.bound-bound.ensures in
+    c.in-End.vertices c.args.buffer.now _ _ _ _ _ c.bound.ensures in
     rw c.in-End.is (same-sheet c.args.sheet.now e (as_prints c.ended.ensures))

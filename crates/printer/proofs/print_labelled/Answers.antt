@@ -8,8 +8,7 @@ use Rattle.printer.proofs.Arrays.{zeros-room}
 use Rattle.printer.proofs.print_labelled.Goals as goal
 
 pub slice_bounds-labels-end : goal.slice_bounds-labels-end
-slice_bounds-labels-end c = zeros-room 60000 c.args.reading.grid.points
-    (points-few c.args.reading.grid c.requires.0.made)
+slice_bounds-labels-end c = points-few c.args.reading.grid c.requires.0.made
 
 pub slice_bounds-label_and_print-end : goal.slice_bounds-label_and_print-end
 slice_bounds-label_and_print-end c = sym (length-take-le {A = ℕ} c.args.reading.grid.points (replicate 60000 0)

@@ -1,8 +1,6 @@
 -- `printer::print_run` meets its contract: the run has room for every answer. Assumes nothing.
-use mathlib.Core.Path.{◌≡◌, refl, sym}
+use mathlib.Core.Path.{◌≡◌, refl}
 use lib.ListN.{replicate}
-use lib.Seq.{length-take-le}
-use native.Mathlib.Omega.{arith}
 use Rattle.grid.proofs.Fields.{indices-few}
 use Rattle.printer.proofs.Arrays.{same-sheet}
 use Rattle.printer.proofs.Runs.{run-prints}
@@ -11,13 +9,8 @@ use Rattle.printer.specs.Run.{printed, Fits, problem_with, run_sheet}
 use Rattle.printer.proofs.print_run.Goals as goal
 use Rattle.printer.proofs.print_run.Goals.{After-run_on-answer}
 
-pub slice_bounds-start-end : goal.slice_bounds-start-end
-slice_bounds-start-end c =
-    omega (arith, c.requires.whole, indices-few c.args.reading.grid c.requires.made)
-
-pub slice_bounds-run_on-end : goal.slice_bounds-run_on-end
-slice_bounds-run_on-end c = sym (length-take-le _ _
-    (omega (arith, c.requires.whole, indices-few c.args.reading.grid c.requires.made)))
+pub shared_ref_as_front-start : goal.shared_ref_as_front-start
+shared_ref_as_front-start c = indices-few c.args.reading.grid c.requires.made
 
 -- what is printed is the sheet of the run
 printed-run : (c : After-run_on-answer)

@@ -13,7 +13,7 @@ product : (n d : ℕ) → n ≤ 16 → d ≤ 65535 → n * d ≤ 1048560
 product n d p q = mul-le-mul p q
 
 pub overflow_mul-divisor : goal.overflow_mul-divisor
-overflow_mul-divisor c = omega (arith, product c.args.count c.args.division (omega arith) (omega arith))
+overflow_mul-divisor c = omega (arith, product c.args.count c.from.result (omega arith) (omega arith))
 
 pub nonzero_div-number : goal.nonzero_div-number
 nonzero_div-number c = mul-pos (omega arith) (omega arith)
@@ -25,7 +25,7 @@ pub overflow_sub-rest : goal.overflow_sub-rest
 overflow_sub-rest c = div-mul-le_self _ _
 
 pub overflow_add-rest : goal.overflow_add-rest
-overflow_add-rest c = omega (arith, product c.args.count c.args.division (omega arith) (omega arith))
+overflow_add-rest c = omega (arith, product c.args.count c.from.result (omega arith) (omega arith))
 
 pub overflow_add-result : goal.overflow_add-result
 overflow_add-result c = Fits-le (add-le-add (div-le_self _ _) (le_refl _)) (omega arith)
@@ -35,21 +35,23 @@ pub returns-then-divisor-rest : goal.returns-then-divisor-rest
 unfolding centre_of
 returns-then-divisor-rest c =
     let a = c.args in
-    let b = a.count * a.division in
+    let d = c.from.result in
+    let b = a.count * d in
     let parts = 10000 * a.total in
-    let positive : 0 < b = mul-pos {m = a.count} {n = a.division} (omega arith) (omega arith) in
+    let positive : 0 < b = mul-pos {m = a.count} {n = d} (omega arith) (omega arith) in
     let whole = div-add-mod' parts b in
     let below = mod-lt parts positive in
-    nearest-only parts b positive _
-    (nearest-above parts b (parts / b) (parts - parts / b * b) (omega arith) (omega arith) (omega arith))
+    rw (← c.from.ensures) (nearest-only parts b positive _
+    (nearest-above parts b (parts / b) (parts - parts / b * b) (omega arith) (omega arith) (omega arith)))
 
 pub returns-else-divisor-rest : goal.returns-else-divisor-rest
 unfolding centre_of
 returns-else-divisor-rest c =
     let a = c.args in
-    let b = a.count * a.division in
+    let d = c.from.result in
+    let b = a.count * d in
     let parts = 10000 * a.total in
-    let positive : 0 < b = mul-pos {m = a.count} {n = a.division} (omega arith) (omega arith) in
+    let positive : 0 < b = mul-pos {m = a.count} {n = d} (omega arith) (omega arith) in
     let whole = div-add-mod' parts b in
-    nearest-only parts b positive _
-    (nearest-below parts b (parts / b) (parts - parts / b * b) (omega arith) (omega arith))
+    rw (← c.from.ensures) (nearest-only parts b positive _
+    (nearest-below parts b (parts / b) (parts - parts / b * b) (omega arith) (omega arith)))

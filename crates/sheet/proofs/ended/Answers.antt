@@ -6,10 +6,6 @@ use Rattle.text.proofs.Parts.{part_join, part_front}
 use Rattle.sheet_lines.proofs.Rows.{length-rows}
 use Rattle.sheet.proofs.ended.Goals as goal
 
-pub centre_line-requires : goal.centre_line-requires
-centre_line-requires c =
-    (omega (arith, c.requires), c.requires)
-
 pub returns : goal.returns
 unfolding end_sheet
 returns c =
@@ -20,5 +16,5 @@ returns c =
     let counts = part_join (part_join head c.labelled-next-4.ensures.0) c.labelled-next-5.ensures.0 in
     let written =
     part_join (part_join counts c.vertex_lines-next.ensures.0) c.centre_line.ensures.0 in
-    rw (length-rows a.count (length a.divisions.now) a.vertices.now)
+    rw (← c.from.ensures, length-rows a.count (length a.divisions.now) a.vertices.now)
     (part_front written (omega (arith, c.labelled-next.ensures.2)))

@@ -6,4 +6,4 @@ use Rattle.sheet.proofs.refused.Goals as goal
 
 pub returns : goal.returns
 unfolding refused_sheet
-returns c = part_front c.labelled.ensures.0 (omega arith)
+returns c = rw (← c.from.ensures) (part_front c.labelled.ensures.0 (omega arith))

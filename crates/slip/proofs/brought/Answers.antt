@@ -9,7 +9,7 @@ use Rattle.combinatorics.specs.Front.{front}
 use Rattle.combinatorics.specs.Lists.{all}
 use Rattle.little_endian.specs.Numbers.{words}
 use Rattle.game_losses.specs.Table.{num_losses, in_range}
-use Rattle.slip.proofs.LossesRead.{Brought, brought, words_put, read_back, room-left, in_range_lem, out_of_range}
+use Rattle.slip.proofs.LossesRead.{Brought, brought, words_put, read_back, room-left, tested}
 use Rattle.slip_fields.specs.Slip.{slip_grid, slip_losses}
 use Rattle.slip.proofs.brought.Goals as goal
 use Rattle.slip.proofs.brought.Goals.{After-words, Start}
@@ -66,17 +66,12 @@ slice_bounds-in_range-end-2 c =
     (put (goal.at.slice_bounds-in_range-end-2 c).After-words) in
     sym (length-take-le (count (goal.at.slice_bounds-in_range-end-2 c).Start) _ (omega (arith, left, half (goal.at.slice_bounds-in_range-end-2 c).Start, (facts (goal.at.slice_bounds-in_range-end-2 c).Start).few)))
 
-pub returns-then-not-in_range : goal.returns-then-not-in_range
-returns-then-not-in_range c =
-    let slip = c.args.slip.now in
-    let read = read_back slip c.args.begin (facts (goal.at.returns-then-not-in_range c).Start) (count (goal.at.returns-then-not-in_range c).Start) _ c.args.room.now (half (goal.at.returns-then-not-in_range c).Start)
-    (put (goal.at.returns-then-not-in_range c).After-words) in
-    let out = ap (all in_range) (sym read) ∙ sym c.in_range.ensures ∙ c.if-not-in_range.true in
-    record { value = out_of_range slip c.args.begin (facts (goal.at.returns-then-not-in_range c).Start) out; room_after = put (goal.at.returns-then-not-in_range c).After-words }
-
 pub returns : goal.returns
 returns c =
     let slip = c.args.slip.now in
     let read = read_back slip c.args.begin (facts (goal.at.returns c).Start) (count (goal.at.returns c).Start) _ c.args.room.now (half (goal.at.returns c).Start)
     (put (goal.at.returns c).After-words) in
-    let inside = ap (all in_range) (sym read) ∙ sym c.in_range.ensures ∙ c.if-not-in_range.false in record { value = in_range_lem slip c.args.begin (facts (goal.at.returns c).Start) (count (goal.at.returns c).Start) inside (half (goal.at.returns c).Start); room_after = put (goal.at.returns c).After-words }
+    let test = c.in_range.ensures ∙ ap (all in_range) read in record {
+      value = c.then_some.ensures ∙ tested slip c.args.begin (facts (goal.at.returns c).Start) _ _ test (half (goal.at.returns c).Start);
+      room_after = put (goal.at.returns c).After-words;
+    }

@@ -1,3 +1,95 @@
 -- `pass` meets its contract. Assumes nothing.
-use Rattle.std.proofs.Common.{◌≡◌, refl, sym, ap, ◌∙◌, rules, arith}
+use Rattle.std.proofs.Common.{◌≡◌, refl, sym, ap, ◌∙◌, subst, take, ◌+◌, arith}
+use Rattle.grid_points.specs.Grid.{lent}
+use Rattle.moves.specs.Held.{answered, state_of}
+use Rattle.moves.specs.declared.Outcome.{Outcome}
+use Rattle.moves.specs.declared.Outcome.TheVariants.{Moved}
+use Rattle.moves.specs.declared.Status.{Status}
+use Rattle.path_pass.specs.declared.Stand.{Stand}
+use Rattle.refinement_levels.specs.Levels.{game_problem}
+use Rattle.rules.specs.Moves.{State, goes, make_move}
+use Rattle.solve_pass.proofs.Passed.{Passing, begins, begins-reading, can_look, facet-ends, labels-fit}
+use Rattle.solve_pass.proofs.Passed.{passes_on, place-ends, spends, spent-here}
+use Rattle.solve_pass.specs.Bare.{labelled}
 use Rattle.solve_pass.proofs.pass.Goals as goal
+use Rattle.solve_pass.proofs.pass.Goals.{After-visit-outcome}
+
+pub begun-at-requires : goal.begun-at-requires
+begun-at-requires c = omega (arith, c.requires.many, (c.requires.game _ c.requires.start).grid.few_indices)
+
+pub loop-visited-init : goal.loop-visited-init
+loop-visited-init c =
+    let a = c.args in
+    let p = game_problem (lent a.sizes.now a.divisions.now) (take a.indices a.held.now.first) a.losses.now in
+    let B = c.begun-at.ensures in
+    record { here = begins c.requires c.begun-at.result.status B.status; read = begins-reading p _ 1 B.labels refl }
+
+-- where the pass stands, and the state there
+abbrev stand : After-visit-outcome → Stand
+stand c = c.loop-visited.at
+
+abbrev place : After-visit-outcome → State
+place c = let l = c.loop-visited in state_of c.args.round.now l.held l.at.status
+
+pub visit-outcome-requires : goal.visit-outcome-requires
+visit-outcome-requires c =
+    let l = c.loop-visited in
+    can_look c.requires c.args.budget l.visited l.at (state_of c.args.round.now l.held l.at.status) l.invariant
+    c.loop-visited-test.true c.requires.below
+
+pub returns-in-PlaceEnd : goal.returns-in-PlaceEnd
+returns-in-PlaceEnd c =
+    let here = (goal.at.returns-in-PlaceEnd c).After-visit-outcome in
+    let l = c.loop-visited in
+    rw c.ended.ensures (place-ends c.requires c.args.budget l.visited l.at (place here) l.invariant
+    c.loop-visited-test.true c.visit-outcome.new.held l.at.status c.in-PlaceEnd.index c.in-PlaceEnd.ensures)
+
+pub returns-in-FacetEnd : goal.returns-in-FacetEnd
+returns-in-FacetEnd c =
+    let here = (goal.at.returns-in-FacetEnd c).After-visit-outcome in
+    let l = c.loop-visited in
+    rw c.ended-in-FacetEnd.ensures (facet-ends c.requires c.args.budget l.visited l.at (place here) l.invariant
+    c.loop-visited-test.true c.visit-outcome.new.held l.at.status c.in-FacetEnd.index c.in-FacetEnd.ensures)
+
+-- where it has moved
+abbrev next : After-visit-outcome → Status → State
+next c status = state_of c.args.round.now c.visit-outcome.new.held status
+
+moved : (c : After-visit-outcome) (status : Status) → c.visit-outcome.result ≡ Moved status
+    → (let a = c.args in
+    goes (next c status) ≡ make_move (labelled (lent a.sizes.now a.divisions.now) a.losses.now (place c)))
+moved c status e =
+    ap (λ (o : Outcome). answered c.args.round.now c.visit-outcome.new.held (stand c).status o) (sym e)
+    ∙ c.visit-outcome.ensures
+
+pub returns-then-visited-budget : goal.returns-then-visited-budget
+returns-then-visited-budget c =
+    let here = (goal.at.returns-then-visited-budget c).After-visit-outcome in
+    let l = c.loop-visited in
+    spent-here c.requires c.args.budget l.visited l.at (place here) l.invariant c.loop-visited-test.true
+    (next here c.in-Moved.status) (moved here c.in-Moved.status c.in-Moved.is) c.if-visited-budget.true
+
+pub on-at-requires : goal.on-at-requires
+on-at-requires c =
+    let here = (goal.at.on-at-requires c).After-visit-outcome in
+    let l = c.loop-visited in
+    let few = labels-fit c.requires c.args.budget l.visited l.at (place here) l.invariant c.loop-visited-test.true
+    (next here c.in-Moved.status) (moved here c.in-Moved.status c.in-Moved.is)
+    (omega (arith, c.loop-visited-test.true, c.if-visited-budget.false)) in
+    omega (arith, few, c.ranges.budget)
+
+pub loop-visited-preserved : goal.loop-visited-preserved
+loop-visited-preserved c =
+    let here = (goal.at.loop-visited-preserved c).After-visit-outcome in
+    let l = c.loop-visited in
+    let a = c.args in
+    let p = game_problem (lent a.sizes.now a.divisions.now) (take a.indices a.held.now.first) a.losses.now in
+    subst (λ (y : Stand). Passing p (l.visited + 1) y (state_of a.round.now c.visit-outcome.new.held y.status))
+    (sym c.on-at.ensures)
+    (passes_on c.requires a.budget l.visited l.at (place here) l.invariant c.loop-visited-test.true
+    (next here c.in-Moved.status) (moved here c.in-Moved.status c.in-Moved.is) _ refl)
+
+pub returns : goal.returns
+returns c =
+    let l = c.loop-visited in
+    spends c.requires l.visited _ l.invariant.here c.args.budget (omega arith)

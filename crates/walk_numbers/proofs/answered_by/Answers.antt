@@ -10,7 +10,7 @@ returns-in-Refused c = c.unanswered.ensures ∙ (let a = c.args in
     c.in-Refused.is))
 
 pub returns-in-Ended : goal.returns-in-Ended
-returns-in-Ended c = rw c.kind_number.ensures.0 (let a = c.args in
+returns-in-Ended c = rw c.from.ensures.0 (let a = c.args in
     sym (ap (λ (x : WalkAnswer). answered_by a.walk x a.simplex a.change)
     c.in-Ended.is))
 

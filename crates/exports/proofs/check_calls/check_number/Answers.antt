@@ -3,4 +3,4 @@ use borrow.Author.Rules.{rules}
 use Rattle.exports.proofs.check_calls.check_number.Goals as goal
 
 pub returns-in-Yes : goal.returns-in-Yes
-returns-in-Yes c = rw c.in-Yes.is
+returns-in-Yes c = rw (c.in-Yes.is, c.from-in-Yes.ensures)

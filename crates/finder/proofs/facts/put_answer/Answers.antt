@@ -31,7 +31,7 @@ returns-in-Unknown c = rw c.in-Unknown.is (refl, two _ _ _ (omega arith))
 
 pub returns-in-End : goal.returns-in-End
 returns-in-End c =
-    rw (c.in-End.is, c.kind_number.ensures.0) (refl, five _ _ _ _ _ _ (omega arith))
+    rw (c.in-End.is, c.from.ensures.0) (refl, five _ _ _ _ _ _ (omega arith))
 
 pub bounds-facts-1 : goal.bounds-facts-1
 bounds-facts-1 c = simp length-set (omega arith)

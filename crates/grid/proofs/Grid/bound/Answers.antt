@@ -20,8 +20,8 @@ product c =
     ∙ bound_of (shape s) s.points s.indices (s.indices - s.blocks) (made-points s m) (made-indices s m)
     (omega (arith, made-indices s m, made-blocks s m))
 
-pub overflow_sub-indices : goal.overflow_sub-indices
-overflow_sub-indices c =
+pub overflow_sub-self : goal.overflow_sub-self
+overflow_sub-self c =
     let s = c.args.self in
     omega (arith, blocks-few _ (made-accepted s c.requires), made-indices s c.requires, made-blocks s c.requires)
 

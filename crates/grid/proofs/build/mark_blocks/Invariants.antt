@@ -2,23 +2,12 @@
 -- Assumes nothing.
 use mathlib.Core.List.{map}
 use mathlib.Core.Path.{◌≡◌}
-use Prim.Native.Nat.{◌≤◌, ◌-◌}
-use lib.ListN.{length, take}
 use Rattle.combinatorics.specs.Lists.{up_from}
 use Rattle.combinatorics.specs.Front.{padded}
-use Rattle.grid_points.proofs.Accepted.{Accepted}
 use Rattle.grid_points.specs.Grid.{first_index, block_count, lent}
 use Rattle.grid.proofs.build.mark_blocks.Given as goal
 
 abbrev pub invariant-loop-j : goal.invariant-loop-j
 invariant-loop-j l =
-    (l.own_sizes ≡ padded 6 (take l.j l.sizes))
-    × (l.own_divisions ≡ padded 6 (take l.j l.divisions))
-    × (l.firsts ≡ padded 6 (map (first_index (lent l.sizes l.divisions)) (up_from 0 l.j)))
+    (l.firsts ≡ padded 6 (map (first_index (lent l.sizes l.divisions)) (up_from 0 l.j)))
     × (l.counts ≡ padded 6 (map (block_count (lent l.sizes l.divisions)) (up_from 0 l.j)))
-    × (l.j ≤ length l.sizes)
-    × Accepted (lent l.sizes l.divisions)
-
-abbrev pub decreases-loop-j : goal.decreases-loop-j
-decreases-loop-j l =
-    length l.sizes - l.j

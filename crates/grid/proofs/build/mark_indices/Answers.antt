@@ -33,7 +33,7 @@ pub loop-h-init : goal.loop-h-init
 loop-h-init c =
     let none = sym (front-none (replicate 16 0)) in
     let z = c.requires.indices_unmarked in
-    (z.block_zero ∙ none, z.previous_zero ∙ none, z.next_zero ∙ none, omega arith, c.requires.indices_value.0, c.requires.indices_value.1, c.requires.indices_value.2)
+    (z.block_zero ∙ none, z.previous_zero ∙ none, z.next_zero ∙ none)
 
 pub first_index-first-requires : goal.first_index-first-requires
 first_index-first-requires c = omega (arith, (spans c).0)
@@ -47,12 +47,12 @@ overflow_cast-block c = omega (arith, (spans (goal.at.overflow_cast-block c).Aft
 pub index_before-requires : goal.index_before-requires
 index_before-requires c =
     let s = spans (goal.at.index_before-requires c).After-block_of-j in
-    rw (c.first_index-first.ensures, c.wide-size.ensures) (s.1, s.2, s.3)
+    rw (c.first_index-first.ensures, c.from-size.ensures) (s.1, s.2, s.3)
 
 pub index_after-requires : goal.index_after-requires
 index_after-requires c =
     let s = spans (goal.at.index_after-requires c).After-block_of-j in
-    rw (c.first_index-first.ensures, c.wide-size.ensures) (omega arith, s.3)
+    rw (c.first_index-first.ensures, c.from-size.ensures) (omega arith, s.3)
 
 pub loop-h-preserved : goal.loop-h-preserved
 unfolding before after
@@ -62,22 +62,18 @@ loop-h-preserved c =
     let p : c.index_before.result ≡ before (lent ss []) l.h = c.index_before.ensures
     ∙ rw (
       c.first_index-first.ensures,
-      c.wide-size.ensures,
+      c.from-size.ensures,
       c.block_of-j.ensures,
     ) in
     let n : c.index_after.result ≡ after (lent ss []) l.h = c.index_after.ensures
     ∙ rw (
       c.first_index-first.ensures,
-      c.wide-size.ensures,
+      c.from-size.ensures,
       c.block_of-j.ensures,
     ) in (
       rw (l.invariant.0, c.block_of-j.ensures) (front-counted (block_in ss) (replicate 16 0) l.h (omega arith)),
       rw (l.invariant.1, p) (front-counted (before (lent ss [])) (replicate 16 0) l.h (omega arith)),
       rw (l.invariant.2, n) (front-counted (after (lent ss [])) (replicate 16 0) l.h (omega arith)),
-      omega arith,
-      l.invariant.4,
-      l.invariant.5,
-      l.invariant.6,
     )
 
 pub returns : goal.returns

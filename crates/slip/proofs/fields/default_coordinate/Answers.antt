@@ -19,27 +19,27 @@ inside c =
     rw c.block_of-j.ensures
     (omega (arith, b, made-blocks g m), omega (arith, b, made-blocks g m, (blocks-range g m).1))
 
-pub bounds-firsts-j : goal.bounds-firsts-j
-bounds-firsts-j c = (inside c).1
+pub bounds-grid-j : goal.bounds-grid-j
+bounds-grid-j c = (inside c).1
 
-pub offset_bounds-divisions-j : goal.offset_bounds-divisions-j
-offset_bounds-divisions-j c = omega (arith, (inside (goal.at.offset_bounds-divisions-j c).After-block_of-j).1)
+pub offset_bounds-grid-j : goal.offset_bounds-grid-j
+offset_bounds-grid-j c = omega (arith, (inside (goal.at.offset_bounds-grid-j c).After-block_of-j).1)
 
-pub bounds-divisions-j : goal.bounds-divisions-j
-bounds-divisions-j c = (inside (goal.at.bounds-divisions-j c).After-block_of-j).1
+pub bounds-grid-j-then-h-from : goal.bounds-grid-j-then-h-from
+bounds-grid-j-then-h-from c = (inside (goal.at.bounds-grid-j-then-h-from c).After-block_of-j).1
 
-pub returns-then-h-wide : goal.returns-then-h-wide
-returns-then-h-wide c =
+pub returns-then-h-from : goal.returns-then-h-from
+returns-then-h-from c =
     let g = c.args.grid in
     let b = c.block_of-j in
-    let i = (inside (goal.at.returns-then-h-wide c).After-block_of-j).0 in
+    let i = (inside (goal.at.returns-then-h-from c).After-block_of-j).0 in
     let f = made-first g c.requires.0 b.result i in
     made-division g c.requires.0 b.result i
     ∙ default_first (shape g) c.args.h b.result b.ensures (omega (arith, f))
 
-pub returns-else-h-wide : goal.returns-else-h-wide
-returns-else-h-wide c =
+pub returns-else-h-from : goal.returns-else-h-from
+returns-else-h-from c =
     let g = c.args.grid in
     let b = c.block_of-j in
-    let f = made-first g c.requires.0 b.result (inside (goal.at.returns-else-h-wide c).After-block_of-j).0 in
-    default_other (shape g) c.args.h b.result b.ensures (λ e. c.if-h-wide.false (omega (arith, e, f)))
+    let f = made-first g c.requires.0 b.result (inside (goal.at.returns-else-h-from c).After-block_of-j).0 in
+    default_other (shape g) c.args.h b.result b.ensures (λ e. c.if-h-from.false (omega (arith, e, f)))

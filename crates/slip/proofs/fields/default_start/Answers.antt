@@ -12,10 +12,7 @@ use Rattle.slip_fields.specs.Slip.{default_coordinate}
 use Rattle.slip.proofs.fields.default_start.Goals as goal
 
 pub loop-h-init : goal.loop-h-init
-loop-h-init c = (sym (front-none (replicate 16 0)), omega arith, indices-few c.args.grid c.requires)
-
-pub default_coordinate-requires : goal.default_coordinate-requires
-default_coordinate-requires c = (c.requires, omega arith)
+loop-h-init c = (sym (front-none (replicate 16 0)), indices-few c.args.grid c.requires)
 
 pub loop-h-preserved : goal.loop-h-preserved
 loop-h-preserved c =
@@ -23,8 +20,7 @@ loop-h-preserved c =
     let g = shape c.args.grid in (
       rw (l.invariant.0, c.default_coordinate.ensures)
           (front-counted (default_coordinate g) (replicate 16 0) l.h (omega arith)),
-      omega arith,
-      l.invariant.2,
+      l.invariant.1,
     )
 
 pub returns : goal.returns

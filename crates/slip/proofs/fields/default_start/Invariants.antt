@@ -2,7 +2,7 @@
 -- front. Assumes nothing.
 use mathlib.Core.List.{map}
 use mathlib.Core.Path.{◌≡◌}
-use Prim.Native.Nat.{◌≤◌, ◌-◌}
+use Prim.Native.Nat.{◌≤◌}
 use Rattle.combinatorics.specs.Lists.{up_from}
 use Rattle.combinatorics.specs.Front.{padded}
 use Rattle.grid.specs.Made.{shape}
@@ -11,7 +11,4 @@ use Rattle.slip.proofs.fields.default_start.Given as goal
 
 abbrev pub invariant-loop-h : goal.invariant-loop-h
 invariant-loop-h l =
-    (l.start ≡ padded 16 (map (default_coordinate (shape l.grid)) (up_from 0 l.h))) × (l.h ≤ l.indices) × (l.indices ≤ 16)
-
-abbrev pub decreases-loop-h : goal.decreases-loop-h
-decreases-loop-h l = l.indices - l.h
+    (l.start ≡ padded 16 (map (default_coordinate (shape l.grid)) (up_from 0 l.h))) × (l.grid.indices ≤ 16)

@@ -5,24 +5,31 @@ use borrow.Author.Tests.{lt-ltb, le-ltb}
 use Rattle.slip_fields.proofs.Laws.{map-passes}
 use Rattle.slip.proofs.fields.is_map.Goals as goal
 
-pub returns-then-map-lt4 : goal.returns-then-map-lt4
-returns-then-map-lt4 c = let m = c.args.map in sym (map-passes m (omega arith) ∙ rw (lt-ltb m 4 c.if-map-lt4.true))
+pub returns-in-4-to-11 : goal.returns-in-4-to-11
+returns-in-4-to-11 c =
+    let m = c.args.map in sym (map-passes m (omega arith) ∙ rw (le-ltb m 4 (omega arith), lt-ltb m 12 (omega arith)))
 
-pub returns-then-map-lt12 : goal.returns-then-map-lt12
-returns-then-map-lt12 c =
-    let m = c.args.map in
-    sym (map-passes m (omega arith) ∙ rw (le-ltb m 4 c.if-map-lt4.false, lt-ltb m 12 c.if-map-lt12.true))
-
-pub returns-then-map-lt16 : goal.returns-then-map-lt16
-returns-then-map-lt16 c =
+pub returns-in-4-to-11-2 : goal.returns-in-4-to-11-2
+returns-in-4-to-11-2 c =
     let m = c.args.map in
     sym
     (map-passes m (omega arith)
-    ∙ rw (le-ltb m 4 c.if-map-lt4.false, le-ltb m 12 c.if-map-lt12.false, lt-ltb m 16 c.if-map-lt16.true))
+    ∙ rw (le-ltb m 4 (omega arith), le-ltb m 12 (omega arith), le-ltb m 16 (omega arith), lt-ltb m 20 (omega arith)))
 
-pub returns : goal.returns
-returns c =
+pub returns-in_default : goal.returns-in_default
+returns-in_default c =
+    let m = c.args.map in sym (map-passes m (omega arith) ∙ rw (lt-ltb m 4 (omega arith)))
+
+pub returns-in_default-2 : goal.returns-in_default-2
+returns-in_default-2 c =
     let m = c.args.map in
     sym
     (map-passes m (omega arith)
-    ∙ rw (le-ltb m 4 c.if-map-lt4.false, le-ltb m 12 c.if-map-lt12.false, le-ltb m 16 c.if-map-lt16.false))
+    ∙ rw (le-ltb m 4 (omega arith), le-ltb m 12 (omega arith), lt-ltb m 16 (omega arith)))
+
+pub returns-in_default-3 : goal.returns-in_default-3
+returns-in_default-3 c =
+    let m = c.args.map in
+    sym
+    (map-passes m (omega arith)
+    ∙ rw (le-ltb m 4 (omega arith), le-ltb m 12 (omega arith), le-ltb m 16 (omega arith), le-ltb m 20 (omega arith)))

@@ -14,11 +14,8 @@ use Rattle.slip.proofs.Readings.{start_is, no_start, asked-made, asked-indices}
 use Rattle.slip_fields.specs.Slip.{stands, default_start, slip_start, field_at}
 use Rattle.slip.proofs.fields.start.Goals as goal
 
-pub bit_stands-requires : goal.bit_stands-requires
-bit_stands-requires c = (omega (arith, head-fits c.args.slip.now c.requires.0.head), omega arith)
-
-pub default_start-start-requires : goal.default_start-start-requires
-default_start-start-requires c = (asked-made c.args.slip.now
+pub default_start-numbers-requires : goal.default_start-numbers-requires
+default_start-numbers-requires c = (asked-made c.args.slip.now
     c.args.grid c.requires.0).0
 
 pub returns-then-not-bit_stands : goal.returns-then-not-bit_stands
@@ -28,7 +25,7 @@ returns-then-not-bit_stands c =
     let absent : stands slip 0 ≡ false =
     sym c.bit_stands.ensures ∙ c.if-not-bit_stands.true in
     let end : c.args.at ≡ field_at slip 1 = omega (arith, c.requires.1, at_next slip 0, length_absent slip 0 absent) in
-    let is : c.default_start-start.result ≡ padded 16 (slip_start slip) = c.default_start-start.ensures
+    let is : c.default_start-numbers.result ≡ padded 16 (slip_start slip) = c.default_start-numbers.ensures
     ∙ ap (λ g. padded 16 (default_start g)) (asked-made slip c.args.grid c.requires.0).1
     ∙ rw absent in
     rw (is, end) (sym (start_is slip (omega (arith, end, c.requires.1, at_first slip, head-fits slip c.requires.0.head))))
@@ -41,8 +38,8 @@ overflow_sub-slip c = omega (
   head-fits c.args.slip.now c.requires.0.head,
 )
 
-pub overflow_mul-indices : goal.overflow_mul-indices
-overflow_mul-indices c = omega (
+pub overflow_mul-grid : goal.overflow_mul-grid
+overflow_mul-grid c = omega (
   arith,
   (asked-indices c.args.slip.now c.args.grid
       c.requires.0).1,
@@ -58,8 +55,8 @@ returns-then-slip-at c =
     omega (arith, n.0, c.requires.1, at_next slip 0, length-there slip 0 there) in
     sym (no_start slip (omega (arith, end, c.if-slip-at.true, c.requires.1, at_first slip, head-fits slip c.requires.0.head)))
 
-pub slice_bounds-start-end : goal.slice_bounds-start-end
-slice_bounds-start-end c = (asked-indices c.args.slip.now
+pub slice_bounds-numbers-end : goal.slice_bounds-numbers-end
+slice_bounds-numbers-end c = (asked-indices c.args.slip.now
     c.args.grid c.requires.0).1
 
 pub slice_bounds-words-end : goal.slice_bounds-words-end
@@ -77,24 +74,6 @@ words-requires c =
     omega (arith, n.0, c.requires.1, at_next slip 0, length-there slip 0 there) in
     let k = length-take-le {A = ℕ} c.args.grid.indices (replicate 16 0) n.1 in
     omega (arith, k, c.if-slip-at.false, c.requires.1, at_first slip, head-fits slip c.requires.0.head)
-
-pub overflow_mul-result : goal.overflow_mul-result
-overflow_mul-result c = omega (
-  arith,
-  (asked-indices c.args.slip.now
-      c.args.grid
-      c.requires.0).1,
-)
-
-pub overflow_add-result : goal.overflow_add-result
-overflow_add-result c = omega (
-  arith,
-  c.if-slip-at.false,
-  c.requires.1,
-  at_first c.args.slip.now,
-  head-fits c.args.slip.now
-      c.requires.0.head,
-)
 
 pub returns : goal.returns
 returns c =

@@ -6,33 +6,21 @@ use mathlib.Core.Path.{◌≡◌, sym, ap, ◌∙◌}
 use Prim.Native.Nat.{ℕ, ◌*◌, ◌≤◌}
 use borrow.Author.Tests.{ne_eqb}
 use lib.ListN.{length, take}
-use lib.Seq.{length-take-le}
 use native.Mathlib.Nat.{mul-le-mul}
 use Rattle.grid.proofs.Fields.{made-accepted, made-blocks}
 use Rattle.grid.specs.Made.{shape}
 use Rattle.game_losses.proofs.Table.{product-few}
 use Rattle.game_losses.specs.Game.{product}
 use Rattle.game_losses.specs.Table.{num_losses}
-use Rattle.slip_fields.proofs.Laws.{head-fits, exact, labels-last, game-last, losses-last}
-use Rattle.slip.proofs.Readings.{table_is, no_table, asked-made, asked-points, sizes-room}
+use Rattle.slip_fields.proofs.Laws.{exact, labels-last, game-last, losses-last}
+use Rattle.slip.proofs.Readings.{table_is, no_table, table_tested, asked-made, asked-points}
 use Rattle.slip_fields.specs.Slip.{stands, slip_grid, slip_game, fields_end}
 use Rattle.slip.proofs.fields.table.Goals as goal
 use Rattle.slip.proofs.fields.table.Goals.{After-num_profiles, Else-bit_stands, Then-bit_stands, Then-bit_stands-2}
 
-pub bit_stands-requires : goal.bit_stands-requires
-bit_stands-requires c = (omega (arith, head-fits c.args.slip.now c.requires.0.head), omega arith)
-
 -- a table of labels
 labelled : (c : Then-bit_stands) → stands c.args.slip.now 2 ≡ true
 labelled c = sym c.bit_stands.ensures ∙ c.if-bit_stands.true
-
-pub returns-then-left-grid : goal.returns-then-left-grid
-returns-then-left-grid c =
-    let slip = c.args.slip.now in
-    let last = labels-last slip c.requires.0.head (labelled (goal.at.returns-then-left-grid c).Then-bit_stands) in
-    let P = asked-points slip c.args.grid c.requires.0 in
-    sym (no_table slip (ne_eqb (length slip) (fields_end slip)
-    (λ e. c.if-left-grid.true (omega (arith, e, P, c.requires.1, last)))))
 
 pub returns-then-bit_stands : goal.returns-then-bit_stands
 returns-then-bit_stands c =
@@ -40,14 +28,12 @@ returns-then-bit_stands c =
     let two = labelled (goal.at.returns-then-bit_stands c).Then-bit_stands in
     let P = asked-points slip c.args.grid c.requires.0 in
     let last = labels-last slip c.requires.0.head two in
-    let whole = exact slip (omega (arith, c.if-left-grid.false, P, c.requires.1, c.requires.2, last)) in
-    sym (table_is slip whole ∙ rw (two, c.requires.1))
+    c.then_some.ensures
+    ∙ table_tested slip _ _ _ (λ e. omega (arith, e, P, c.requires.1, c.requires.2, last))
+    (λ e. omega (arith, e, P, c.requires.1, last)) (rw (two, c.requires.1))
 
 not_labelled : (c : Else-bit_stands) → stands c.args.slip.now 2 ≡ false
 not_labelled c = sym c.bit_stands.ensures ∙ c.if-bit_stands.false
-
-pub bit_stands-requires-2 : goal.bit_stands-requires-2
-bit_stands-requires-2 c = (omega (arith, head-fits c.args.slip.now c.requires.0.head), omega arith)
 
 -- a game that is built in
 built_in : (c : Then-bit_stands-2) → stands c.args.slip.now 3 ≡ true
@@ -70,12 +56,11 @@ returns-then-bit_stands-2 c =
     let whole = exact slip (omega (arith, c.if-left-ne1.false, c.requires.1, c.requires.2, last.1)) in
     sym (table_is slip whole ∙ rw (two, three, last.0, ← c.requires.1))
 
-pub slice_bounds-sizes-end : goal.slice_bounds-sizes-end
-slice_bounds-sizes-end c =
-    sizes-room c.args.slip.now c.args.grid c.requires.0
-
-pub slice_bounds-num_profiles-end : goal.slice_bounds-num_profiles-end
-slice_bounds-num_profiles-end c = sym (length-take-le _ _ (sizes-room c.args.slip.now c.args.grid c.requires.0))
+pub shared_ref_as_front-num_profiles : goal.shared_ref_as_front-num_profiles
+shared_ref_as_front-num_profiles c =
+    let g = c.args.grid in
+    let made = (asked-made c.args.slip.now g c.requires.0).0 in
+    omega (arith, made-blocks g made, (made-accepted g made).few_blocks)
 
 pub num_profiles-requires : goal.num_profiles-requires
 num_profiles-requires c =
@@ -105,18 +90,11 @@ most c =
     (omega (arith, made-blocks g made, a.few_blocks)) (omega (arith, c.num_profiles.ensures)) in
     omega arith
 
-pub overflow_mul-blocks : goal.overflow_mul-blocks
-overflow_mul-blocks c = omega (arith, most c)
+pub overflow_mul-losses : goal.overflow_mul-losses
+overflow_mul-losses c = omega (arith, most c)
 
-pub overflow_mul-blocks-2 : goal.overflow_mul-blocks-2
-overflow_mul-blocks-2 c = omega (arith, most c)
-
-pub returns-then-left-blocks : goal.returns-then-left-blocks
-returns-then-left-blocks c =
-    let slip = c.args.slip.now in
-    let last = losses-last slip c.requires.0.head (not_labelled (goal.at.returns-then-left-blocks c).Else-bit_stands) (own (goal.at.returns-then-left-blocks c).After-num_profiles) in
-    sym (no_table slip (ne_eqb (length slip) (fields_end slip)
-    (λ e. c.if-left-blocks.true (omega (arith, e, losses-are (goal.at.returns-then-left-blocks c).After-num_profiles, c.requires.1, last.1)))))
+pub overflow_mul-losses-2 : goal.overflow_mul-losses-2
+overflow_mul-losses-2 c = omega (arith, most c)
 
 pub returns : goal.returns
 returns c =
@@ -124,5 +102,7 @@ returns c =
     let two = not_labelled (goal.at.returns c).Else-bit_stands in
     let three = own (goal.at.returns c).After-num_profiles in
     let last = losses-last slip c.requires.0.head two three in
-    let whole = exact slip (omega (arith, c.if-left-blocks.false, losses-are (goal.at.returns c).After-num_profiles, c.requires.1, c.requires.2, last.1)) in
-    sym (table_is slip whole ∙ rw (two, three, last.0, ← c.requires.1))
+    let count = losses-are (goal.at.returns c).After-num_profiles in
+    c.then_some-2.ensures
+    ∙ table_tested slip _ _ _ (λ e. omega (arith, e, count, c.requires.1, c.requires.2, last.1))
+    (λ e. omega (arith, e, count, c.requires.1, last.1)) (rw (two, three, last.0, ← c.requires.1))
