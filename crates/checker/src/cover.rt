@@ -15,22 +15,22 @@ ghost use Rattle.checker.specs.Covered.{IsCovered, first_whole, Labelled, with_l
 use crate::CheckAnswer;
 use arrays::{add, has, padded, zeros};
 use grid::Grid;
-use label_table::{Label, read_at};
+use label_table::read_at;
 use positions::ENTRIES;
 
 // The set with the index that a label names, or as it is where there is no label.
-fn with_label(set: u16, label: Label) -> u16
+fn with_label(set: u16, label: Option<u8>) -> u16
     requires { (label ≡ label_of (label_byte label)) × (label_byte label ≤ 16) }
     ensures { result ≡ with_label set (label_byte label) }
 {
     match label {
-        Label::Is(byte) => add(set, usize::from(byte) - 1),
-        Label::Unknown => set,
+        Some(byte) => add(set, usize::from(byte) - 1),
+        None => set,
     }
 }
 
 // The label of a grid point, which stands at the front; its position is the one to which no steps lead.
-fn label_at(g: Grid, binomials: &[u16; ENTRIES], labels: &[u8], y: &[u16; 16]) -> Label
+fn label_at(g: Grid, binomials: &[u16; ENTRIES], labels: &[u8], y: &[u16; 16]) -> Option<u8>
     requires made { IsMade g × HasBinomials (shape g) binomials.now }
     requires labelled { Labelled g labels.now × (is_grid_point (shape g) (take g.indices y.now) ≡ true) }
     ensures value { (result ≡ label_of (label_byte result)) × (label_byte result ≤ 16) }

@@ -11,23 +11,24 @@ use Rattle.path_pass.specs.declared.Finish.TheVariants.{Ended, Spent, Unknown}
 use Rattle.place.specs.Path.{answer}
 use Rattle.place.specs.Problem.{Problem}
 use Rattle.rules.specs.declared.Round.{Round}
+use Rattle.moves.specs.declared.holding.Held.{Held}
 use Rattle.nearest_pass.specs.Survey.{Surveys}
 use Rattle.nearest_pass.specs.declared.Vertex.{Vertex}
 use Rattle.std.specs.Prelude.{Option}
 use Rattle.nearest_visited.specs.Nearest.{positions_within}
 use Rattle.nearest.specs.Report.{listed_by, nearest_in}
 
-module _ (p : Problem) (w : Point) (given budget : ℕ) (round : Round) (first order old new : List ℕ)
-    (r : Option Vertex) where
-  pub finish_nearest : (f : Finish) → Finished p budget round first order f → Surveys p w given budget old new r f
+module _ (p : Problem) (w : Point) (given budget : ℕ) (round : Round) (held : Held)
+    (old new : List ℕ) (r : Option Vertex) where
+  pub finish_nearest : (f : Finish) → Finished p budget round held f → Surveys p w given budget old new r f
       → r ≡ nearest_in p w given (answer p budget)
-  finish_nearest (Ended kind places h s read) (A, sixteen) S = rw A.is S.0
+  finish_nearest (Ended kind places h s read) A S = rw A.is S.0
   finish_nearest (Unknown places position) is S = rw is S.0
   finish_nearest Spent is S = rw is S.0
 
-  pub finish_listed : (f : Finish) → Finished p budget round first order f → Surveys p w given budget old new r f
+  pub finish_listed : (f : Finish) → Finished p budget round held f → Surveys p w given budget old new r f
       → (let l = listed_by p w given (answer p budget) in take (length l) new ≡ l)
-  finish_listed (Ended kind places h s read) (A, sixteen) S =
+  finish_listed (Ended kind places h s read) A S =
       rw (A.is, S.1) (front_taken (positions_within p w given) old)
   finish_listed (Unknown places position) is S = rw is
   finish_listed Spent is S = rw is

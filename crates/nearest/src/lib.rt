@@ -14,9 +14,10 @@ ghost use Rattle.marks.specs.Reading.{problem_from};
 ghost use Rattle.nearest_visited.specs.Questions.{point_questions};
 ghost use Rattle.nearest.specs.Report.{near_answer_buffer, list_buffer, listed_by, report_of, reported};
 
-use arrays::{block_sizes, padded};
+use arrays::round_of;
 use finder::{RunAnswer, announce};
 use grid::Grid;
+use moves::Held;
 use nearest_met::weights;
 pub use nearest_pass::Vertex;
 use nearest_pass::pass_noting;
@@ -79,35 +80,13 @@ fn announced(
         let l = listed_by (problem_from g start.now labels.now) w.now given p in
         take (length l) found.new ≡ l }
 {
-    let sizes = block_sizes(g);
+    let round = round_of(g);
     let weights = weights(g);
-    let mut first = padded(start, g.indices);
-    let mut order = [0u32; 16];
+    let mut held = Held::at(start, g.indices);
     let passed = pass_noting(
-        g,
-        binomials,
-        labels,
-        &g.previous,
-        &g.next,
-        &sizes,
-        &mut first,
-        &mut order,
-        &weights,
-        w,
-        given,
-        found,
-        budget,
+        g, binomials, labels, &round, &mut held, &weights, w, given, found, budget,
     );
-    let run = announce(
-        g,
-        &g.previous,
-        &sizes,
-        &first,
-        &order,
-        passed.finish,
-        answer,
-        budget,
-    );
+    let run = announce(g, &round, &held, passed.finish, answer, budget);
     Report {
         run,
         nearest: passed.nearest,

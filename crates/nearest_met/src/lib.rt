@@ -3,8 +3,7 @@
 // asks.
 #![tactic(auto)]
 
-ghost use Rattle.std.specs.Prelude.{[], ◌≡◌, suc, ◌≤◌, ◌<◌, length, set, take};
-ghost use Rattle.arrays.specs.Rounds.{round_of};
+ghost use Rattle.std.specs.Prelude.{◌≡◌, suc, ◌≤◌, ◌<◌, length, set, take};
 ghost use Rattle.grid_points.specs.Grid.{Grid as Shape, at};
 ghost use Rattle.moves.specs.Held.{state_of};
 ghost use Rattle.rules.specs.Read.{CanCompute};
@@ -20,7 +19,8 @@ mod distances;
 use arrays::position_at;
 use distances::distance_of;
 pub use distances::weights;
-use moves::{Status, advance};
+use moves::{Held, Status, advance};
+use rules::Round;
 
 // What is kept of the vertices met so far: the position of the nearest and its distance, before the first one a
 // distance that no vertex has; and how many positions the list has.
@@ -32,37 +32,26 @@ pub struct Tally {
 }
 
 // The position of the point that has come in, whose mark is stored, if one has.
-pub fn came_in(marks: &[u32; 16], s: Status) -> Option<usize>
+pub fn came_in(held: &Held, s: Status) -> Option<usize>
     requires { (s.active ≤ s.count) × (s.count ≤ 15) }
-    ensures { result
-        ≡ come_by s.rule (mark_position (at (take (suc s.count) marks.now) s.active)) }
+    ensures { result ≡ come_by s.rule (mark_position (at (take (suc s.count) held.now.marks) s.active)) }
 {
     if s.rule < 6 {
-        return Some(position_at(marks, s.count, s.active));
+        return Some(position_at(&held.marks, s.count, s.active));
     }
     None
 }
 
 // The distance from w of the point that has come in.
-fn away(
-    previous: &[u8; 16],
-    sizes: &[u8; 16],
-    first: &[u16; 16],
-    order: &[u32; 16],
-    s: Status,
-    weights: &[usize; 16],
-    w: &[u16],
-    m: usize,
-) -> usize
-    requires indices_below { let a = state_of (round_of previous.now [] sizes.now) first.now [] order.now [] s in
-        IndicesBelow previous.now × CanCompute a a.active }
+fn away(round: &Round, held: &Held, s: Status, weights: &[usize; 16], w: &[u16], m: usize) -> usize
+    requires indices_below { let a = state_of round.now held.now s in
+        IndicesBelow round.now.previous × CanCompute a a.active }
     requires can_measure { (g : Shape) × CanMeasure g weights.now w.now m }
-    ensures { let a = state_of (round_of previous.now [] sizes.now) first.now [] order.now [] s in
-        (g : Shape) → CanMeasure g weights.now w.now m
+    ensures { let a = state_of round.now held.now s in (g : Shape) → CanMeasure g weights.now w.now m
         → result ≡ distance g w.now (point_come g a) }
 {
-    let mut y = *first;
-    advance(&mut y, previous, sizes, s.u, order, s.active);
+    let mut y = held.first;
+    advance(&mut y, round, s.u, &held.order, s.active);
     distance_of(weights, w, &y, m)
 }
 
@@ -107,10 +96,8 @@ fn note(
 
 // The vertex that has come in, if one has, is noted unless it was met before.
 pub fn meet(
-    previous: &[u8; 16],
-    sizes: &[u8; 16],
-    first: &[u16; 16],
-    order: &[u32; 16],
+    round: &Round,
+    held: &Held,
     s: Status,
     weights: &[usize; 16],
     w: &[u16],
@@ -121,12 +108,12 @@ pub fn meet(
     list: &mut [u16],
     t: Tally,
 ) -> Tally
-    requires indices_below { let a = state_of (round_of previous.now [] sizes.now) first.now [] order.now [] s in
-        IndicesBelow previous.now × CanCompute a a.active }
-    requires can_measure { let a = state_of (round_of previous.now [] sizes.now) first.now [] order.now [] s in
+    requires indices_below { let a = state_of round.now held.now s in
+        IndicesBelow round.now.previous × CanCompute a a.active }
+    requires can_measure { let a = state_of round.now held.now s in
         (g : Shape) × CanMeasure g weights.now w.now m
         × HasRoomToNote given t (distance g w.now (point_come g a)) seen.old list.old came }
-    ensures { let a = state_of (round_of previous.now [] sizes.now) first.now [] order.now [] s in
+    ensures { let a = state_of round.now held.now s in
         (g : Shape) → CanMeasure g weights.now w.now m
         → HasMet given t (distance g w.now (point_come g a)) came seen list result }
 {
@@ -136,6 +123,6 @@ pub fn meet(
     if seen[position] != 0 {
         return t;
     }
-    let far = away(previous, sizes, first, order, s, weights, w, m);
+    let far = away(round, held, s, weights, w, m);
     note(seen, list, given, t, position, far as u64)
 }

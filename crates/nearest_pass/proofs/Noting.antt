@@ -114,6 +114,25 @@ module _ (g : GridStruct) (first table : List ℕ) (ok : Accepted (problem_in g 
         (in_map on_numbers on_points (point_in p s) s.active (up_from 0 (suc (length s.order) - 0))
         (in_up_from 0 (suc (length s.order) - 0) s.active (omega arith) (omega arith)))
 
+    -- reading its mark changes no point
+    pub read-come : {a : State} → a ≡ read (table_problem g table) s
+        → point_come (shape g) a ≡ point_come (shape g) s
+    unfolding read with_mark
+    read-come e = rw e (⊎_elim
+        (λ (r : s.rule < 6). rw (lt-ltb s.rule 6 r))
+        (λ (r : 6 ≤ s.rule). rw (le-ltb s.rule 6 r))
+        (before_or_not s.rule 6))
+
+    computed_then : CanCompute (read (table_problem g table) s) (read (table_problem g table) s).active
+    unfolding read with_mark
+    computed_then = ⊎_elim
+        (λ (r : s.rule < 6). rw (lt-ltb s.rule 6 r) computed)
+        (λ (r : 6 ≤ s.rule). rw (le-ltb s.rule 6 r) computed)
+        (before_or_not s.rule 6)
+
+    pub read-computed : {a : State} → a ≡ read (table_problem g table) s → CanCompute a a.active
+    read-computed e = subst (λ (a : State). CanCompute a a.active) (sym e) computed_then
+
     -- its mark, once read, has its position
     label_small : IsKnown (table_problem g table) s → s.rule < 6 → label (table_problem g table) y < 256
     unfolding label

@@ -1,16 +1,17 @@
 // The pass of a run that notes the vertices of its places, each where it comes in for the first time.
 #![tactic(auto)]
 
-ghost use Rattle.std.specs.Prelude.{None, ◌≡◌, ◌≤◌, ◌<◌};
-ghost use Rattle.arrays.specs.Rounds.{round_of};
-ghost use Rattle.path_pass.specs.Finish.{CanPass, Finished, ended_of, problem_in};
+ghost use Rattle.std.specs.Prelude.{None, ◌≡◌};
+ghost use Rattle.path_pass.specs.Finish.{CanPass, Finished, problem_in};
 ghost use Rattle.nearest_pass.specs.Survey.{CanNote, Surveys, none_met, some_vertex};
 
+use end_kinds::Kind;
 use grid::Grid;
-use moves::Outcome;
+use moves::{Held, Outcome};
 use nearest_met::{Tally, came_in, meet};
-use path_pass::{Finish, Looked, Stand, asked, begun, ended, look_up, on};
+use path_pass::{Finish, begun, ended, look_up, on};
 use positions::ENTRIES;
+use rules::Round;
 use ways::make_move;
 
 // The nearest visited vertex, by its position, and how many positions are listed.
@@ -49,13 +50,11 @@ fn unreported(finish: Finish) -> NotingPass
 }
 
 // A pass whose move has led to an end.
-fn reported(at: Stand, outcome: Outcome, budget: u64, t: Tally) -> NotingPass
-    requires { (0 < at.left) × (at.left ≤ budget) }
-    ensures { (result.finish ≡ ended_of at outcome budget)
-        × (result.nearest ≡ some_vertex t.nearest t.listed) }
+fn reported(finish: Finish, t: Tally) -> NotingPass
+    ensures { (result.finish ≡ finish) × (result.nearest ≡ some_vertex t.nearest t.listed) }
 {
     NotingPass {
-        finish: ended(at, outcome, budget),
+        finish,
         nearest: Some(Vertex {
             position: t.nearest,
             listed: t.listed,
@@ -69,80 +68,41 @@ pub fn pass_noting(
     g: Grid,
     binomials: &[u16; ENTRIES],
     table: &[u8],
-    previous: &[u8; 16],
-    next: &[u8; 16],
-    sizes: &[u8; 16],
-    first: &mut [u16; 16],
-    order: &mut [u32; 16],
+    round: &Round,
+    held: &mut Held,
     weights: &[usize; 16],
     w: &[u16],
     given: u64,
     list: &mut [u16],
     budget: u64,
 ) -> NotingPass
-    requires can_pass { let x = round_of previous.now next.now sizes.now in
-        CanPass g x binomials.now first.old order.old table.now }
+    requires can_pass { CanPass g round.now binomials.now held.old table.now }
     requires can_note { CanNote g weights.now w.now list.old }
-    ensures finished { let x = round_of previous.now next.now sizes.now in
-        Finished (problem_in g first.old table.now) budget x
-        first.new order.new result.finish }
-    ensures surveys { Surveys (problem_in g first.old table.now)
+    ensures finished { Finished (problem_in g held.old.first table.now) budget round.now held.new result.finish }
+    ensures surveys { Surveys (problem_in g held.old.first table.now)
         w.now given budget list.old list.new result.nearest result.finish }
 {
-    let mut coefficients = [0u16; 16];
-    let mut marks = [0u32; 16];
     let mut seen = [0u8; 60000];
-    let tails = positions::tails(first, g.indices);
+    let tails = positions::tails(&held.first, g.indices);
     let mut t = none_met();
-    let mut at = begun(first, g.indices, budget);
-    // The places left stand in `at`, by which the finish is told: a `for` would count them a second time.
-    while 0 < at.left {
+    let mut at = begun(&held.first, g.indices);
+    for visited in 0..budget {
         let s = at.status;
-        let looked = look_up(
-            g,
-            binomials,
-            &tails,
-            table,
-            previous,
-            sizes,
-            first,
-            &coefficients,
-            order,
-            &mut marks,
-            s,
-        );
-        if let Looked::Unknown(position) = looked {
-            return unreported(asked(at, position, budget));
+        if let Err(unknown) = look_up(g, binomials, &tails, table, round, held, s) {
+            return unreported(Finish::Unknown {
+                places: visited,
+                position: unknown.position,
+            });
         }
+        let came = came_in(held, s);
         t = meet(
-            previous,
-            sizes,
-            first,
-            order,
-            s,
-            weights,
-            w,
-            g.indices,
-            came_in(&marks, s),
-            given,
-            &mut seen,
-            list,
-            t,
+            round, held, s, weights, w, g.indices, came, given, &mut seen, list, t,
         );
-        let outcome = make_move(
-            previous,
-            next,
-            sizes,
-            first,
-            &mut coefficients,
-            order,
-            &mut marks,
-            s,
-        );
-        let Outcome::Moved(status) = outcome else {
-            return reported(at, outcome, budget, t);
-        };
-        at = on(at, status);
+        match make_move(held, round, s) {
+            Outcome::Moved(status) => at = on(at, status),
+            Outcome::PlaceEnd(index) => return reported(ended(at, Kind::Place, index, visited), t),
+            Outcome::FacetEnd(index) => return reported(ended(at, Kind::Facet, index, visited), t),
+        }
     }
     unreported(Finish::Spent)
 }

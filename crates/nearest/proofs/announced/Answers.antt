@@ -1,10 +1,9 @@
 -- `nearest::announced` meets its contract: the pass from the start, its finish announced, and what was met on the way.
 -- Assumes nothing.
 use mathlib.Core.List.{List}
-use mathlib.Core.Path.{◌≡◌, refl, ap, ◌∙◌, subst}
+use mathlib.Core.Path.{◌≡◌, ap, ◌∙◌, subst}
 use Prim.Native.Nat.{ℕ}
 use native.Mathlib.Omega.{arith}
-use Rattle.arrays.specs.Rounds.{round_of}
 use Rattle.combinatorics.specs.Front.{front}
 use Rattle.finder.proofs.Announcements.{can_announce, can_pad, can_pass, finish_told, finish_written, finished_from}
 use Rattle.finder.proofs.Announcements.{FinishedBy, problem-from}
@@ -13,9 +12,7 @@ use Rattle.grid.proofs.Fields.{indices-few, made-indices}
 use Rattle.grid.specs.Made.{shape}
 use Rattle.grid_points.proofs.Points.{point-long}
 use Rattle.marks.specs.Reading.{problem_from}
-use Rattle.path_pass.proofs.Visits.{is-round, round-below}
 use Rattle.place.specs.Problem.{Problem}
-use Rattle.rules.specs.declared.Round.{Round}
 use Rattle.nearest_pass.specs.Survey.{Surveys}
 use Rattle.nearest_pass.specs.declared.Vertex.{Vertex}
 use Rattle.std.specs.Prelude.{Option}
@@ -29,8 +26,8 @@ same_report : {run run' : RunAnswer} {near near' : Option Vertex} → run ≡ ru
     → ◌≡◌ {A = Report} (record { run = run; nearest = near }) (record { run = run'; nearest = near' })
 same_report e f = cc
 
-pub padded-first-requires : goal.padded-first-requires
-padded-first-requires c =
+pub at-held-requires : goal.at-held-requires
+at-held-requires c =
     let w = c.requires.can_run in
     can_pad w.readable w.accepted
 
@@ -39,10 +36,10 @@ pass_noting-passed-requires c =
     let a = c.args in
     let w = c.requires.can_run in
     let made = w.readable.made in
-    let t = c.padded-first in
-    let sizes = c.block_sizes-sizes in record {
-      can_pass = can_pass w.readable w.accepted _ (is-round a.g made sizes.result sizes.ensures)
-          (round-below a.g made sizes.result) t.result t.ensures _ refl;
+    let round = c.round_of-round in
+    record {
+      can_pass = can_pass w.readable w.accepted round.result round.ensures.0 round.ensures.1 c.at-held.result
+          c.at-held.ensures;
       can_note = record {
         measure = record {
           indices = made-indices a.g made;
@@ -55,76 +52,60 @@ pass_noting-passed-requires c =
       };
     }
 
-abbrev sizes : After-pass_noting-passed → List ℕ
-sizes c = c.block_sizes-sizes.result
-
-abbrev first : After-pass_noting-passed → List ℕ
-first c = c.pass_noting-passed.new.first
-
-abbrev order : After-pass_noting-passed → List ℕ
-order c = c.pass_noting-passed.new.order
-
-abbrev found : After-pass_noting-passed → List ℕ
-found c = c.pass_noting-passed.new.list
-
-abbrev round : After-pass_noting-passed → Round
-round c =
-    let g = c.args.g in
-    round_of g.previous g.next (sizes c)
-
 abbrev problem : After-pass_noting-passed → Problem
 problem c =
     let a = c.args in
     problem_from a.g a.start.now a.labels.now
 
 finished : (c : After-pass_noting-passed) → (let a = c.args in
-    FinishedBy a.g c.requires.can_run.readable.made a.start.now a.labels.now a.budget
-    a.g.previous a.g.next (sizes c) (first c) (order c) c.pass_noting-passed.result.finish)
+    FinishedBy a.g c.requires.can_run.readable.made a.start.now a.labels.now a.budget c.round_of-round.result
+    c.pass_noting-passed.new.held c.pass_noting-passed.result.finish)
 finished c =
     let w = c.requires.can_run in
-    let t = c.padded-first in
-    finished_from w.readable w.accepted t.result t.ensures c.args.budget (round c) (first c)
-    (order c) c.pass_noting-passed.result.finish c.pass_noting-passed.ensures.finished
+    finished_from w.readable w.accepted c.at-held.result c.at-held.ensures c.args.budget c.round_of-round.result
+    c.pass_noting-passed.new.held c.pass_noting-passed.result.finish c.pass_noting-passed.ensures.finished
 
 surveyed : (c : After-pass_noting-passed) → (let a = c.args in
-    Surveys (problem c) a.w.now a.given a.budget a.found.now (found c) c.pass_noting-passed.result.nearest
-    c.pass_noting-passed.result.finish)
+    let passed = c.pass_noting-passed in
+    Surveys (problem c) a.w.now a.given a.budget a.found.now passed.new.list passed.result.nearest
+    passed.result.finish)
 surveyed c =
     let a = c.args in
     let w = c.requires.can_run in
-    let t = c.padded-first in
+    let passed = c.pass_noting-passed in
     subst
-    (λ (p : Problem). Surveys p a.w.now a.given a.budget a.found.now (found c)
-    c.pass_noting-passed.result.nearest
-    c.pass_noting-passed.result.finish)
-    (problem-from w.readable w.accepted t.result t.ensures) c.pass_noting-passed.ensures.surveys
+    (λ (p : Problem). Surveys p a.w.now a.given a.budget a.found.now passed.new.list passed.result.nearest
+    passed.result.finish)
+    (problem-from w.readable w.accepted c.at-held.result c.at-held.ensures.0) passed.ensures.surveys
 
 pub announce-run-requires : goal.announce-run-requires
 announce-run-requires c =
     let a = c.args in
     let made = c.requires.can_run.readable.made in
-    can_announce a.g made a.start.now a.labels.now a.budget a.g.previous a.g.next (sizes (goal.at.announce-run-requires c).After-pass_noting-passed)
-    (first (goal.at.announce-run-requires c).After-pass_noting-passed) (order (goal.at.announce-run-requires c).After-pass_noting-passed) _ (round-below a.g made (sizes (goal.at.announce-run-requires c).After-pass_noting-passed)).backward c.requires.can_run.room
-    c.pass_noting-passed.result.finish (finished (goal.at.announce-run-requires c).After-pass_noting-passed)
+    let round = c.round_of-round in
+    can_announce a.g made a.start.now a.labels.now a.budget round.result c.pass_noting-passed.new.held _
+    round.ensures.1 c.requires.can_run.room c.pass_noting-passed.result.finish
+    (finished (goal.at.announce-run-requires c).After-pass_noting-passed)
 
 pub returns : goal.returns
 returns c =
     let a = c.args in
     let made = c.requires.can_run.readable.made in
-    let f = c.pass_noting-passed.result.finish in
-    let r = c.pass_noting-passed.result.nearest in
-    let said = c.announce-run.ensures in record {
+    let at = (goal.at.returns c).After-pass_noting-passed in
+    let round = c.round_of-round.result in
+    let passed = c.pass_noting-passed in
+    let held = passed.new.held in
+    let f = passed.result.finish in
+    let end = finished at in record {
       value = same_report
           (c.announce-run.ensures.value
-          ∙ finish_told a.g made a.start.now a.labels.now a.budget a.g.previous a.g.next (sizes (goal.at.returns c).After-pass_noting-passed)
-          (first (goal.at.returns c).After-pass_noting-passed) (order (goal.at.returns c).After-pass_noting-passed) f (finished (goal.at.returns c).After-pass_noting-passed))
-          (finish_nearest (problem (goal.at.returns c).After-pass_noting-passed) a.w.now a.given a.budget (round (goal.at.returns c).After-pass_noting-passed) (first (goal.at.returns c).After-pass_noting-passed) (order (goal.at.returns c).After-pass_noting-passed) a.found.now
-          (found (goal.at.returns c).After-pass_noting-passed) r f (finished (goal.at.returns c).After-pass_noting-passed) (surveyed (goal.at.returns c).After-pass_noting-passed));
+          ∙ finish_told a.g made a.start.now a.labels.now a.budget round held f end)
+          (finish_nearest (problem at) a.w.now a.given a.budget round held a.found.now passed.new.list
+          passed.result.nearest f end (surveyed at));
       answer_after = c.announce-run.ensures.answer_after
           ∙ ap
           (λ (x : List ℕ). front x a.answer.now)
-          (finish_written a.g made a.start.now a.labels.now a.budget a.g.previous a.g.next
-          (sizes (goal.at.returns c).After-pass_noting-passed) (first (goal.at.returns c).After-pass_noting-passed) (order (goal.at.returns c).After-pass_noting-passed) f (finished (goal.at.returns c).After-pass_noting-passed));
-      found_after = finish_listed (problem (goal.at.returns c).After-pass_noting-passed) a.w.now a.given a.budget (round (goal.at.returns c).After-pass_noting-passed) (first (goal.at.returns c).After-pass_noting-passed) (order (goal.at.returns c).After-pass_noting-passed) a.found.now
-          (found (goal.at.returns c).After-pass_noting-passed) r f (finished (goal.at.returns c).After-pass_noting-passed) (surveyed (goal.at.returns c).After-pass_noting-passed);
+          (finish_written a.g made a.start.now a.labels.now a.budget round held f end);
+      found_after = finish_listed (problem at) a.w.now a.given a.budget round held a.found.now passed.new.list
+          passed.result.nearest f end (surveyed at);
     }

@@ -5,16 +5,16 @@ use native.Mathlib.Omega.{arith}
 use Rattle.combinatorics.proofs.EditsOfArrays.{first-few}
 use Rattle.rules.proofs.PointsAfter.{after_taken, few-ready}
 use Rattle.rules.specs.Read.{point_after}
-use Rattle.rules.specs.Moves.{first_outside}
+use Rattle.rules.specs.Moves.{source}
 use Rattle.nearest_met.proofs.away.Goals as goal
 
 pub advance-requires : goal.advance-requires
 advance-requires c =
     let a = c.args in
-    let from = first_outside a.previous.now a.sizes.now a.s.u in record {
+    let from = source a.round.now a.s.u in record {
       indices_below = c.requires.indices_below.0;
-      ready_point = few-ready from a.order.now a.first.now a.s.count a.s.active
-          (omega (arith, c.requires.indices_below.1.low, first-few a.s.count a.order.now)) c.requires.indices_below.1;
+      ready_point = few-ready from a.held.now.order a.held.now.first a.s.count a.s.active
+          (omega (arith, c.requires.indices_below.1.low, first-few a.s.count a.held.now.order)) c.requires.indices_below.1;
     }
 
 pub distance_of-requires : goal.distance_of-requires
@@ -23,10 +23,10 @@ distance_of-requires c = c.requires.can_measure
 pub returns : goal.returns
 returns c = λ g C.
     let a = c.args in
-    let from = first_outside a.previous.now a.sizes.now a.s.u in
-    let same : point_after from (take a.s.active a.order.now) a.first.now a.s.active
-    ≡ point_after from (take a.s.count a.order.now) a.first.now a.s.active =
-    sym (after_taken from a.order.now a.first.now a.s.active a.s.active (omega arith))
-    ∙ after_taken from a.order.now a.first.now a.s.count a.s.active
-    (omega (arith, c.requires.indices_below.1.low, first-few a.s.count a.order.now)) in
+    let from = source a.round.now a.s.u in
+    let same : point_after from (take a.s.active a.held.now.order) a.held.now.first a.s.active
+    ≡ point_after from (take a.s.count a.held.now.order) a.held.now.first a.s.active =
+    sym (after_taken from a.held.now.order a.held.now.first a.s.active a.s.active (omega arith))
+    ∙ after_taken from a.held.now.order a.held.now.first a.s.count a.s.active
+    (omega (arith, c.requires.indices_below.1.low, first-few a.s.count a.held.now.order)) in
     c.distance_of.ensures g C ∙ rw (c.advance.ensures, same, C.indices)
