@@ -21,6 +21,7 @@ use Rattle.grid_points.specs.Grid.{Point, is_grid_point, num_indices, position}
 use Rattle.grid.specs.Made.{shape}
 use Rattle.grid.specs.declared.Grid.{Grid as GridStruct}
 use Rattle.moves.specs.declared.holding.Held.{Held}
+use Rattle.moves.specs.declared.Status.{Status}
 use Rattle.place.specs.Places.{Simplex, is_place, label_set, within}
 use Rattle.place.specs.Problem.{Problem, label}
 use Rattle.path_laws.proofs.Accepted.{accepted_of, accepted-table}
@@ -88,8 +89,8 @@ module _ {g : GridStruct} {w : WalkStruct} {labels : List ℕ} {n : ℕ} (C : Ca
           omega (arith, label-within (accepted-table ok) (get_or s j []) (on-grid j l), ok.has_start.sixteen_indices)
 
       pub label_is : (j : ℕ) → j ≤ n → label_at held.marks j ≡ label p (get_or s j [])
-      label_is j l = ap mark_label (S.marked j (omega (arith, long-o))) ∙ label_in_lem (position (shape g) (get_or s j []))
-          (label p (get_or s j [])) (omega (arith, label-few j l))
+      label_is j l = ap mark_label (S.marked j (omega (arith, long-o)))
+          ∙ label_in_lem (position (shape g) (get_or s j [])) (label p (get_or s j [])) (omega (arith, label-few j l))
 
       pub labels-low : LabelsLow held.marks n
       labels-low j l = omega (arith, label_is j l, label-few j l)
@@ -122,7 +123,8 @@ module _ {g : GridStruct} {w : WalkStruct} {labels : List ℕ} {n : ℕ} (C : Ca
 
         pub all_seen : r.seen ≡ t → is_place p s ≡ true
         all_seen e = recognised ok.has_start y o ∙ and_both _ _ S.kept
-            (in_all on_numbers _ o (λ k m. seen_in k (below k m) (ap (λ (x : ℕ). bit x k) e ∙ S.in_t k (below k m) ∙ m)))
+            (in_all on_numbers _ o (λ k m.
+            seen_in k (below k m) (ap (λ (x : ℕ). bit x k) e ∙ S.in_t k (below k m) ∙ m)))
 
         pub not_all_place : r.seen < 65536 → t < 65536 → (r.seen ≡ t → ⊥) → is_place p s ≡ false
         not_all_place ls lt ne = false_of _ (λ h. ne (same_mask r.seen t ls lt
@@ -161,9 +163,12 @@ module _ {g : GridStruct} {w : WalkStruct} {labels : List ℕ} {n : ℕ} (C : Ca
               go (seen_again j l z) = again j (omega (arith, l, found.0, long-o)) (λ e. omega (arith, l, e))
                   (sym (label_is j (omega (arith, l, found.0))) ∙ z ∙ label_is r.point found.0)
 
+          abbrev pub here : Status
+          here = record { rule = 1; count = n; t = t; u = u; active = r.point }
+
           pub can-choose : CanStand g w labels n → place_of (shape g) w.present ≡ s
               → carried_of w ≡ labels_of p (place_of (shape g) w.present)
-              → CanChoose g w labels held n t u r.point
+              → CanChoose g w labels held here
           can-choose D present carried = record {
             low = omega (arith, found.0, C.few);
             long = S.marks_long;
@@ -174,9 +179,10 @@ module _ {g : GridStruct} {w : WalkStruct} {labels : List ℕ} {n : ℕ} (C : Ca
               kept-position C held S.kept r.point found.0,
               (made-accepted g C.made).few_points,
             );
-            stands = λ own un e F. subst (λ (h : Held). Standing g w labels h n t u r.point un) (sym F.same) (record {
+            stands = λ own un e F. subst (λ (h : Held). Standing g w labels h here un) (sym F.same) (record {
               made = C.made;
               asked = C.asked;
+              came_in = omega arith;
               few = C.few;
               list_long = S.list_long;
               marks_long = F.long;
@@ -212,7 +218,8 @@ module _ {g : GridStruct} {w : WalkStruct} {labels : List ℕ} {n : ℕ} (D : Ca
     pub present : place_of (shape g) w.present ≡ there
     present = rw (there-first, there-order) D.present
 
-    pub no-place-there : is_place (table_on g w labels) there ≡ false → next_of (walk_on (shape g) w) labels ≡ refused 20
+    pub no-place-there : is_place (table_on g w labels) there ≡ false
+        → next_of (walk_on (shape g) w) labels ≡ refused 20
     no-place-there f = no_place (walk_on (shape g) w) labels (ok can_see) (rw present f)
 
     -- the labels that are carried, beside those in the marks
@@ -230,9 +237,9 @@ module _ {g : GridStruct} {w : WalkStruct} {labels : List ℕ} {n : ℕ} (D : Ca
           ext_get_or 0 (map mark_label (take (suc n) held.marks)) (labels_of (table_on g w labels) there)
           (m ∙ sym (length-map there (label (table_on g w labels)) ∙ there-long)) (λ j h.
           let jl : j ≤ n = omega (arith, m) in
-          labels_in (take (suc n) held.marks) j (omega (arith, l)) ∙ ap mark_label (get_or-take (suc n) held.marks j 0 (omega arith))
-          ∙
-          label_is can_see held S j jl
+          labels_in (take (suc n) held.marks) j (omega (arith, l))
+          ∙ ap mark_label (get_or-take (suc n) held.marks j 0 (omega arith))
+          ∙ label_is can_see held S j jl
           ∙ sym (label-at there j (omega (arith, there-long))))
         where
           label-at : (r : Simplex) (j : ℕ) → j < length r → get_or (labels_of (table_on g w labels) r) j 0 ≡ label
@@ -254,8 +261,8 @@ module _ {g : GridStruct} {w : WalkStruct} {labels : List ℕ} {n : ℕ} (D : Ca
           (length-map there (label (table_on g w labels)) ∙ there-long ∙ sym D.count) in
           rw (b, present) (rw (← a) (rw (same_self eqb eqb_self w.carried)))
 
-      pub carries_others : same eqb w.carried (labels_in_marks held.marks n) ≡ false → next_of (walk_on (shape g) w) labels
-          ≡ refused 20
+      pub carries_others : same eqb w.carried (labels_in_marks held.marks n) ≡ false
+          → next_of (walk_on (shape g) w) labels ≡ refused 20
       unfolding carried_of
       carries_others f = not_carried (walk_on (shape g) w) labels (ok can_see) (λ e.
           let own : List ℕ = take w.present.count w.carried in

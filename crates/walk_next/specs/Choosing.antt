@@ -3,6 +3,7 @@ use Rattle.std.specs.Prelude.{Bool, true, ◌&&◌, cond, List, ◌≡◌, ℕ, 
 use Rattle.grid_points.specs.Grid.{at}
 use Rattle.grid.specs.declared.Grid.{Grid as GridStruct}
 use Rattle.moves.specs.declared.holding.Held.{Held}
+use Rattle.moves.specs.declared.Status.{Status}
 use Rattle.walk_next.specs.Spares.{label_at}
 use Rattle.walk_ways.specs.Standing.{Standing}
 use Rattle.walk_places.specs.declared.Walk.{Walk as WalkStruct}
@@ -29,10 +30,9 @@ pub record FilledBy (held : Held) (point : ℕ) (unknown : Bool) (own : Held) : 
   pub each : (j : ℕ) → at own.marks j ≡ at held.marks j + cond (unknown && eqb j point) 1 0
 
 -- however the label of the point is filled
-pub record CanChoose (g : GridStruct) (w : WalkStruct) (labels : List ℕ) (held : Held) (n t u point : ℕ)
-    : Type 0 where
-  pub low : point < 16
+pub record CanChoose (g : GridStruct) (w : WalkStruct) (labels : List ℕ) (held : Held) (here : Status) : Type 0 where
+  pub low : here.active < 16
   pub long : length held.marks ≡ 16
-  pub room : at held.marks point < 4294967295
-  pub stands : (own : Held) (unknown : Bool) → unknown ≡ eqb (label_at held.marks point) 0
-      → FilledBy held point unknown own → Standing g w labels own n t u point unknown
+  pub room : at held.marks here.active < 4294967295
+  pub stands : (own : Held) (unknown : Bool) → unknown ≡ eqb (label_at held.marks here.active) 0
+      → FilledBy held here.active unknown own → Standing g w labels own here unknown

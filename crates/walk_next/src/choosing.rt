@@ -5,10 +5,9 @@ ghost use Rattle.walk_ways.specs.Standing.{IsRoundOf, next_in};
 
 use arrays::label_in;
 use grid::Grid;
-use moves::Held;
+use moves::{Held, Status};
 use rules::Round;
 use walk_places::Walk;
-use walk_recogniser::Sets;
 use walk_ways::{Next, from_other, from_start};
 
 // What is held, with index 1 for the label of this point where it is not yet known.
@@ -24,25 +23,15 @@ fn filled(held: &Held, point: usize, unknown: bool) -> Held
 }
 
 // What comes next from a place, by the point whose label the others do not need.
-pub fn chosen(
-    g: Grid,
-    round: &Round,
-    held: &Held,
-    labels: &[u8],
-    w: Walk,
-    n: usize,
-    sets: Sets,
-    point: usize,
-) -> Next
-    requires can_choose { CanChoose g w labels.now held.now n sets.t sets.u point }
+pub fn chosen(g: Grid, round: &Round, held: &Held, labels: &[u8], w: Walk, here: Status) -> Next
+    requires can_choose { CanChoose g w labels.now held.now here }
     requires round_of { IsRoundOf g round.now }
     ensures { result ≡ next_in g w labels.now }
 {
-    let Sets { t, u } = sets;
-    let unknown = label_in(held.marks[point]) == 0;
-    let own = filled(held, point, unknown);
-    if n == 0 {
-        return from_start(g, round, &own, labels, w, t, u, unknown);
+    let unknown = label_in(held.marks[here.active]) == 0;
+    let own = filled(held, here.active, unknown);
+    if here.count == 0 {
+        return from_start(g, round, &own, labels, w, here, unknown);
     }
-    from_other(g, round, &own, labels, w, n, t, u, point, unknown)
+    from_other(g, round, &own, labels, w, here, unknown)
 }

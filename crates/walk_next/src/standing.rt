@@ -11,6 +11,7 @@ use crate::choosing::chosen;
 use crate::spares::spare;
 use arrays::round_of;
 use grid::Grid;
+use moves::Status;
 use walk_labels::carries;
 use walk_places::{Walk, held_in, is_kept, seen};
 use walk_ways::{Next, refused};
@@ -23,8 +24,8 @@ fn counts_in_range(g: Grid, places: u64, read: u64) -> bool
     0 < read && read <= places && places <= g.bound()
 }
 
-// What comes next from a present place that is kept rightly: it is recognised, its labels must be those carried and have
-// all of T, and one of the two moves from it must lead back.
+// What comes next from a present place that is kept rightly: it is recognised, its labels must be those carried and
+// have all of T, and one of the two moves from it must lead back.
 fn stand(g: Grid, w: Walk, labels: &[u8], n: usize) -> Next
     requires { CanStand g w labels.now n }
     ensures { result ≡ next_in g w labels.now }
@@ -41,7 +42,14 @@ fn stand(g: Grid, w: Walk, labels: &[u8], n: usize) -> Next
         return refused(20);
     }
     let round = round_of(g);
-    chosen(g, &round, &held, labels, w, n, sets, spared.point)
+    let here = Status {
+        rule: 1,
+        count: n,
+        t: sets.t,
+        u: sets.u,
+        active: spared.point,
+    };
+    chosen(g, &round, &held, labels, w, here)
 }
 
 // What comes next on a walk whose grid is made, and which passes questions 1 to 7: 20 and 16 are asked, and the two

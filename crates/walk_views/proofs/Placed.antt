@@ -124,7 +124,8 @@ module _ {g : GridStruct} {w : WalkStruct} {labels : List ℕ} {held : Held} {n 
         ∙ marked-at here j (omega (arith, here-long, long-o));
   }
     where
-      marked-at : (r : Simplex) (j : ℕ) → j < length r → get_or (map (mark_of filled) r) j 0 ≡ mark_of filled (get_or r j [])
+      marked-at : (r : Simplex) (j : ℕ) → j < length r
+          → get_or (map (mark_of filled) r) j 0 ≡ mark_of filled (get_or r j [])
       marked-at [] j m = absurd (omega arith)
       marked-at (z ∷ r) zero m = refl
       marked-at (z ∷ r) (suc j) m = marked-at r j (omega arith)

@@ -27,11 +27,10 @@ pub fn from_start(
     held: &Held,
     labels: &[u8],
     w: Walk,
-    t: u16,
-    u: u16,
+    here: Status,
     unknown: bool,
 ) -> Next
-    requires standing { Standing g w labels.now held.now 0 t u 0 unknown }
+    requires standing { Standing g w labels.now held.now here unknown × (here.count ≡ 0) }
     requires round_of { IsRoundOf g round.now }
     ensures { result ≡ next_in g w labels.now }
 {
@@ -41,15 +40,8 @@ pub fn from_start(
     if unknown {
         return refused(16);
     }
-    let s = Status {
-        rule: 1,
-        count: 0,
-        t,
-        u,
-        active: 0,
-    };
-    let on = way(round, held, g.indices, s);
-    told(g, round, held, s, on)
+    let on = way(round, held, g.indices, here);
+    told(g, round, held, here, on)
 }
 
 // From any other place: the point leaves, or its label joins T or the other point with that label leaves. One of the
@@ -60,36 +52,26 @@ pub fn from_other(
     held: &Held,
     labels: &[u8],
     w: Walk,
-    n: usize,
-    t: u16,
-    u: u16,
-    point: usize,
+    here: Status,
     unknown: bool,
 ) -> Next
-    requires standing { Standing g w labels.now held.now n t u point unknown × (1 ≤ n) }
+    requires standing { Standing g w labels.now held.now here unknown × (1 ≤ here.count) }
     requires round_of { IsRoundOf g round.now }
     ensures { result ≡ next_in g w labels.now }
 {
-    let leaving = Status {
-        rule: 6,
-        count: n,
-        t,
-        u,
-        active: point,
-    };
-    let staying = Status { rule: 1, ..leaving };
+    let leaving = Status { rule: 6, ..here };
     let a = way(round, held, g.indices, leaving);
     if leads_back(a, w.before) {
         if unknown {
             return refused(16);
         }
-        let on = way(round, held, g.indices, staying);
-        return told(g, round, held, staying, on);
+        let on = way(round, held, g.indices, here);
+        return told(g, round, held, here, on);
     }
     if unknown {
         return refused(20);
     }
-    let b = way(round, held, g.indices, staying);
+    let b = way(round, held, g.indices, here);
     if leads_back(b, w.before) {
         return told(g, round, held, leaving, a);
     }
