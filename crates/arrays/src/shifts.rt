@@ -14,7 +14,8 @@ pub fn shift(y: &mut [u16; 16], h: usize, b: usize)
     y[b] -= 1;
 }
 
-// The coefficients of h and of the indices going back from it before b, each raised by 1.
+// The coefficients of h and of the indices going back from it before b, each raised by 1. Raising and lowering are two
+// functions: a common one would take the change as a closure and its test as a ghost, which is no plainer.
 pub fn raise(c: &mut [u16; 16], previous: &[u8; 16], h: usize, b: usize)
     requires h_bound { (h < 16) × IndicesBelow previous.now }
     requires c_value { tested_before (λ x. ltb x 65535) suc previous.now b 16 h c.old ≡ true }

@@ -95,6 +95,7 @@ fn write_from(
     ensures { labels.new
         ≡ boundary_table (lent sizes.now divisions.now) old.now }
 {
+    // No `for`: a turn goes on by as many points as have the label found, which only the turn itself tells.
     let mut k: usize = 0;
     while k < labels.len() {
         let found = label(point, previous, 0);

@@ -1,6 +1,4 @@
-// The kinds of calls, which standard input names by numbers from 1 on.
-use std::io;
-use std::io::ErrorKind;
+// The kinds of calls, which standard input names by numbers: any number but 1 to 12 is a refinement's.
 
 // The calls for a slip and for the shelf have no grid.
 #[derive(Clone, Copy, Debug, PartialEq, Eq)]
@@ -31,11 +29,9 @@ pub enum StartCall {
     Refine,
 }
 
-impl TryFrom<u64> for Call {
-    type Error = io::Error;
-
-    fn try_from(number: u64) -> io::Result<Call> {
-        Ok(match number {
+impl From<u64> for Call {
+    fn from(number: u64) -> Call {
+        match number {
             1 => Call::PrintSheet,
             2 => Call::Sheet,
             3 => Call::File,
@@ -48,8 +44,7 @@ impl TryFrom<u64> for Call {
             10 => Call::OnGrid(GridCall::From(StartCall::Nearest)),
             11 => Call::OnGrid(GridCall::From(StartCall::RunWithTrail)),
             12 => Call::OnGrid(GridCall::From(StartCall::ReadTrail)),
-            13 => Call::OnGrid(GridCall::From(StartCall::Refine)),
-            _ => return Err(ErrorKind::InvalidData.into()),
-        })
+            _ => Call::OnGrid(GridCall::From(StartCall::Refine)),
+        }
     }
 }

@@ -52,7 +52,7 @@ fn make_on_grid(rt: &(impl Input + Print), call: GridCall) -> io::Result<()> {
 
 fn make_next(rt: &(impl Input + Print)) -> io::Result<()> {
     name(rt)?;
-    match Call::try_from(number(rt)?)? {
+    match Call::from(number(rt)?) {
         Call::PrintSheet => slips::print_sheet(rt),
         Call::Sheet => slips::sheet(rt),
         Call::File => shelves::file(rt),

@@ -10,7 +10,7 @@ use case_lines::{bytes, name, number, words};
 use printing::show_answered;
 use reading::read_answered;
 use std::io;
-use std::io::{ErrorKind, Input, Print};
+use std::io::{Input, Print};
 use walk_numbers::Answered;
 use walk_places::Walk;
 use walk_views::turned;
@@ -45,20 +45,17 @@ enum Call {
     Turn,
 }
 
-// Standard input names them by numbers from 1 on.
-impl TryFrom<u64> for Call {
-    type Error = io::Error;
-
-    fn try_from(number: u64) -> io::Result<Call> {
-        Ok(match number {
+// Standard input names them by numbers: any number but 1 to 5 is the last's.
+impl From<u64> for Call {
+    fn from(number: u64) -> Call {
+        match number {
             1 => Call::Begin,
             2 => Call::Move,
             3 => Call::Preview,
             4 => Call::Points,
             5 => Call::MoveLent,
-            6 => Call::Turn,
-            _ => return Err(ErrorKind::InvalidData.into()),
-        })
+            _ => Call::Turn,
+        }
     }
 }
 
@@ -87,7 +84,7 @@ fn make_calls(rt: &(impl Input + Print)) -> io::Result<()> {
     let mut s = read_answered(rt)?;
     let mut behind = s.walk;
     for _ in 0..number(rt)? {
-        let call = Call::try_from(number(rt)?)?;
+        let call = Call::from(number(rt)?);
         let next = answer(rt, call, s, behind)?;
         show_answered(rt, next)?;
         behind = s.walk;

@@ -25,7 +25,8 @@ fn all_on_grid(g: Grid, numbers: &[u16], count: usize) -> bool
     true
 }
 
-// How many whole points of m numbers a list of this length has. They are counted: the checker divides nowhere.
+// How many whole points of m numbers a list of this length has. They are counted, as no `for` can: the checker divides
+// nowhere.
 pub fn whole_points(length: usize, m: usize) -> usize
     requires { 0 < m }
     ensures { result ≡ length / m }

@@ -18,7 +18,7 @@ use Rattle.grid_points.specs.Grid.{dimension, num_indices}
 use Rattle.grid_points.proofs.Points.{point-long}
 use Rattle.grid.specs.Made.{IsMade, shape}
 use Rattle.grid.specs.declared.Grid.{Grid as GridStruct}
-use Rattle.moves.specs.Held.{IsAt, state_of}
+use Rattle.moves.specs.Held.{state_of}
 use Rattle.moves.specs.declared.holding.Held.{Held}
 use Rattle.rules.specs.Read.{point_in, points_from}
 use Rattle.rules.specs.Ready.{IsRound, RoundBelow}
@@ -52,23 +52,21 @@ module _ {g : GridStruct} {binomials start table : List ℕ} (readable : Readabl
       rw (e, f, h)
 
   -- the pass can begin
-  pub can_pass : (round : Round) → IsRound (shape g) round → RoundBelow round → (held : Held) → IsAt start g.indices held
+  pub can_pass : (round : Round) → IsRound (shape g) round → RoundBelow round → (held : Held) → held.first ≡ front (take g.indices start) (replicate 16 0)
       → CanPass g round binomials held table
   can_pass round is below held A = record {
     readable = readable;
     is_round = is;
     below = below;
-    accepted = rw (problem-from held A.0) ok;
-    no_coefficients = A.1;
-    no_marks = A.2;
+    accepted = rw (problem-from held A) ok;
   }
 
   -- where it finished
-  pub finished_from : (held : Held) → IsAt start g.indices held → (budget : ℕ) (round : Round) (last : Held) (f : Finish)
+  pub finished_from : (held : Held) → held.first ≡ front (take g.indices start) (replicate 16 0) → (budget : ℕ) (round : Round) (last : Held) (f : Finish)
       → Finished (problem_in g held.first table) budget round last f
       → Finished (problem_from g start table) budget round last f
   finished_from held A budget round last f F =
-      subst (λ (p : Problem). Finished p budget round last f) (problem-from held A.0) F
+      subst (λ (p : Problem). Finished p budget round last f) (problem-from held A) F
 
 -- the answer at an end
 module _ (g : GridStruct) (made : IsMade g) (start table : List ℕ) (budget places : ℕ) (kind : Kind) (e : State) (h : ℕ)

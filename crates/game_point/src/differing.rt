@@ -5,7 +5,8 @@ ghost use Rattle.grid_points.specs.Grid.{lent, num_indices};
 ghost use Rattle.game_losses.specs.Game.{difference as difference_of, dot as dot_of};
 ghost use Rattle.game_point.specs.Label.{GameAt, OwnLosses};
 
-// The sum of the mix's numbers times the values, entry by entry, in 64 bits.
+// The sum of the mix's numbers times the values, entry by entry. It is in 64 bits where `game_losses` has 32, and so is
+// the difference: a function for both would need a model of the width's sums, which is no plainer.
 fn dot(mix: &[u16], values: &[u64]) -> u64
     requires { (length mix.now ≤ length values.now) × (dot_of mix.now values.now ≤ 9000000000000000000) }
     ensures { result ≡ dot_of mix.now values.now }

@@ -8,8 +8,6 @@ ghost use Rattle.grid.specs.Made.{made_of, no_grid, shape, IsMade};
 mod build;
 mod grid_questions;
 
-pub use grid_counts::{wide, wide16};
-
 // A grid with what is looked up at every move. At the front of each array stand the numbers of the
 // blocks or of the indices, 0 behind.
 #[derive(Clone, Copy)]

@@ -17,16 +17,3 @@ pub use sizes::{each_at_least, each_one, first_index};
 
 // "Is P at most 60,000?": counts above it are cut off. The grid has it as its limit.
 pub const MAX_POINTS: usize = 60000;
-
-// A byte is a number, with nothing to show at the cast.
-pub fn wide(x: u8) -> usize
-    ensures { result ≡ x }
-{
-    x as usize
-}
-
-pub fn wide16(x: u16) -> usize
-    ensures { (result ≡ x) × (result ≤ 65535) }
-{
-    x as usize
-}

@@ -1,6 +1,5 @@
 -- The state that a run holds before a call and after it: what the contracts of this crate say. Assumes nothing.
-use Rattle.std.specs.Prelude.{List, ◌≡◌, ℕ, suc, ◌-◌, ◌≤◌, ◌<◌, replicate, take}
-use Rattle.combinatorics.specs.Front.{front}
+use Rattle.std.specs.Prelude.{List, ◌≡◌, ℕ, suc, ◌-◌, ◌≤◌, ◌<◌, take}
 use Rattle.grid_points.specs.Grid.{at}
 use Rattle.rules.specs.Ready.{IndicesBelow, RoundBelow, Ready, ReadyGrow}
 use Rattle.rules.specs.Moves.{State, After, goes, ends_at_place, ends_at_facet, source_in}
@@ -32,13 +31,6 @@ abbrev pub answered : Round → Held → Status → Outcome → After
 answered round held s (Moved r) = goes (state_of round held r)
 answered round held s (PlaceEnd h) = ends_at_place (state_of round held s) h
 answered round held s (FacetEnd h) = ends_at_facet (state_of round held s) h
-
--- {v} is held, whose point has the first m numbers of the start
-abbrev pub IsAt : List ℕ → ℕ → Held → Type 0
-IsAt start m held =
-    (held.first ≡ front (take m start) (replicate 16 0))
-    × (held.coefficients ≡ replicate 16 0)
-    × (held.marks ≡ replicate 16 0)
 
 -- what every function asks that makes a point leave
 pub record Sound (held : Held) (s : Status) : Type 0 where

@@ -17,11 +17,12 @@ pub struct Held {
 }
 
 impl Held {
-    // {v}: its one point has the first m numbers given, no coefficient and no mark yet.
+    // A place whose first point has the first m numbers given, with no coefficient, index or mark.
     pub fn at(start: &[u16], m: usize) -> Held
         requires { (m ≤ length start.now) × (m ≤ 16) }
         ensures { (result.first ≡ front (take m start.now) (replicate 16 0))
             × (result.coefficients ≡ replicate 16 0)
+            × (result.order ≡ replicate 16 0)
             × (result.marks ≡ replicate 16 0) }
     {
         Held {

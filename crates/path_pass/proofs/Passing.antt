@@ -41,13 +41,13 @@ pub record Passing (p : Problem) (visited : ℕ) (a : Stand) (s : State) : Type 
   pub read : HasRead p visited a.labels
 
 -- at {v}
-pub passes-first : (g : GridStruct) → IsMade g → (held : Held) (table : List ℕ) → Accepted (problem_in g held.first table)
-    → {round : Round} → IsRound (shape g) round → held.coefficients ≡ replicate 16 0
-    → held.marks ≡ replicate 16 0 → (stand : Stand) → HasBegun held.first g.indices stand
-    → Passing (problem_in g held.first table) 0 stand (state_of round held stand.status)
-passes-first g made held table ok N c m stand B = record {
-  here = rw (c, m) (begins g made held.first table ok N held.first_long held.order stand.status B.status);
-  read = begins-reading (problem_in g held.first table) stand.labels 1 B.labels refl;
+pub passes-first : (g : GridStruct) → IsMade g → (old new : Held) (table : List ℕ) → Accepted (problem_in g old.first table)
+    → {round : Round} → IsRound (shape g) round → (stand : Stand) → HasBegun old new g.indices stand
+    → Passing (problem_in g old.first table) 0 stand (state_of round new stand.status)
+passes-first g made old new table ok N stand B = record {
+  here = rw (B.first, B.no_coefficients, B.no_marks)
+      (begins g made old.first table ok N old.first_long new.order stand.status B.status);
+  read = begins-reading (problem_in g old.first table) stand.labels 1 B.labels refl;
 }
 
 -- such a place, which is not past the budget: grid and table, and what is held of it

@@ -33,8 +33,6 @@ pub record CanPass (g : GridStruct) (round : Round) (binomials : List ℕ) (held
   pub is_round : IsRound (shape g) round
   pub below : RoundBelow round
   pub accepted : Accepted (problem_in g held.first table)
-  pub no_coefficients : held.coefficients ≡ replicate 16 0
-  pub no_marks : held.marks ≡ replicate 16 0
 
 -- the label of the point that has come in is known, or nothing is read; or it is not, and stands at this position
 abbrev pub IsKnown : Problem → State → Type 0
@@ -73,10 +71,13 @@ pub record IsBegun (first : List ℕ) (m : ℕ) (s : Status) : Type 0 where
   pub active : s.active ≡ 0
   pub zeros : (k : ℕ) → k < 16 → bit s.u k ≡ (ltb k m && eqb (at first k) 0)
 
--- a pass that stands there, before any move
-pub record HasBegun (first : List ℕ) (m : ℕ) (at : Stand) : Type 0 where
-  pub status : IsBegun first m at.status
+-- a pass that stands there, before any move, with the first point that was held
+pub record HasBegun (old new : Held) (m : ℕ) (at : Stand) : Type 0 where
+  pub status : IsBegun old.first m at.status
   pub labels : at.labels ≡ 1
+  pub first : new.first ≡ old.first
+  pub no_coefficients : new.coefficients ≡ replicate 16 0
+  pub no_marks : new.marks ≡ replicate 16 0
 
 -- the number of the first point of the complete simplex
 abbrev pub first_point_of : Kind → ℕ

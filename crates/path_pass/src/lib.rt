@@ -79,13 +79,17 @@ pub fn begin(first: &[u16; 16], m: usize) -> Status
     }
 }
 
-// A pass that stands at {v}, whose one label is counted.
-pub fn begun(first: &[u16; 16], m: usize) -> Stand
+// A pass that stands at {v}: no coefficient and no mark is held yet, and its one label is counted.
+pub fn begun(held: &mut Held, m: usize) -> Stand
     requires { m ≤ 16 }
-    ensures { HasBegun first.now m result }
+    ensures { HasBegun held.old held.new m result }
 {
+    let no_coefficients = [0u16; 16];
+    let no_marks = [0u32; 16];
+    held.coefficients = no_coefficients;
+    held.marks = no_marks;
     Stand {
-        status: begin(first, m),
+        status: begin(&held.first, m),
         labels: 1,
     }
 }
@@ -136,7 +140,7 @@ pub fn pass(
     ensures { Finished (problem_in g held.old.first table.now) budget round.now held.new result }
 {
     let tails = positions::tails(&held.first, g.indices);
-    let mut at = begun(&held.first, g.indices);
+    let mut at = begun(held, g.indices);
     for visited in 0..budget {
         if let Err(unknown) = look_up(g, binomials, &tails, table, round, held, at.status) {
             return Finish::Unknown {

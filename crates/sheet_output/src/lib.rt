@@ -17,6 +17,7 @@ pub const SLIP_BYTES: usize = 65536;
 fn fill(reader: &mut impl Read, slip: &mut [u8]) -> io::Result<usize>
     ensures { ReadsAtMost result slip.new }
 {
+    // No `for`: a turn goes on by as many bytes as the reader gives.
     let mut length = 0;
     while length < slip.len() {
         let count = reader.read(&mut slip[length..])?;

@@ -6,15 +6,14 @@ use mathlib.Core.Path.{◌≡◌, refl, sym, ap, ◌∙◌}
 use Prim.Native.Nat.{ℕ, ◌≤◌, ◌<◌}
 use borrow.Author.Tests.{leb-true, leb-false, le-leb, lt-leb, eqb-true, eq-eqb, ne_eqb}
 use lib.Dec.{eqb, leb}
-use lib.ListN.{length, replicate}
+use lib.ListN.{length}
 use native.Mathlib.Omega.{arith}
 use Rattle.combinatorics.proofs.Basics.{same_or, true_or_false}
-use Rattle.combinatorics.proofs.Fronts.{front_length}
 use Rattle.combinatorics.specs.Front.{padded}
 use Rattle.grid_points.proofs.Accepted.{Accepted, accepted as grid-accepted}
 use Rattle.grid.proofs.Fields.{shape_of, is_made}
 use Rattle.grid.specs.declared.Grid.{Grid as GridStruct}
-use Rattle.grid_points.specs.Grid.{num_blocks, num_indices, num_points}
+use Rattle.grid_points.specs.Grid.{num_indices, num_points}
 use Rattle.grid.specs.Made.{grid_of, shape, IsMade}
 use Rattle.questions.specs.Questions.{first_no}
 use Rattle.grid_points.specs.Questions.{grid_questions}
@@ -231,15 +230,3 @@ module _ (slip : List ℕ) where
     pub asked-points : grid.points ≡ num_points (slip_grid slip)
     unfolding grid_of
     asked-points = ap (λ z. z.points) a.is_grid
-
-    pub sizes-room : grid.blocks ≤ length grid.sizes
-    unfolding grid_of
-    sizes-room =
-        let few = is-accepted.few_blocks in
-        let b : grid.blocks ≡ num_blocks (slip_grid slip) = ap (λ z. z.blocks) a.is_grid in
-        omega (
-          arith,
-          b,
-          few,
-          ap (λ z. length z.sizes) a.is_grid ∙ front_length (slip_grid slip).sizes (replicate 6 0) few,
-        )

@@ -23,7 +23,7 @@ use Rattle.grid_points.proofs.Points.{point-long}
 use Rattle.grid_points.specs.Grid.{Grid, at, block_of, dimension, lent, next, num_indices, previous, size}
 use Rattle.solve_pass.specs.Asked.{CanPassGame}
 use Rattle.game_weighed.specs.Levels.{Rests}
-use Rattle.moves.specs.Held.{IsAt, state_of}
+use Rattle.moves.specs.Held.{state_of}
 use Rattle.moves.specs.declared.holding.Held.{Held}
 use Rattle.path_pass.specs.Finish.{Announced, Finished, first_point_of}
 use Rattle.path_pass.specs.declared.Finish.{Finish}
@@ -72,7 +72,7 @@ module _ {unit : GridStruct} {divisions losses start buffer : List ℕ}
   round-alike N = record { backward = N.backward; forward = N.forward; size = N.size }
 
   pub can_pass : (rests : List ℕ) → Rests (lent (shape unit).sizes []) rests → (round : Round)
-      → IsRound (shape unit) round → RoundBelow round → (held : Held) → IsAt start unit.indices held
+      → IsRound (shape unit) round → RoundBelow round → (held : Held) → held.first ≡ front (take unit.indices start) (replicate 16 0)
       → CanPassGame g unit.firsts unit.block rests losses unit.indices round held
   can_pass rests resting round is below held A = record {
     game = λ y on. record {
@@ -87,22 +87,20 @@ module _ {unit : GridStruct} {divisions losses start buffer : List ℕ}
     many = made-indices unit C.made;
     is_round = round-alike is;
     below = below;
-    start = rw (start_taken held A.0) C.on_grid;
-    no_coefficients = A.1;
-    no_marks = A.2;
+    start = rw (start_taken held A) C.on_grid;
   }
 
   module _ (budget : ℕ) (round : Round) (last : Held) where
     abbrev pub FinishedBy : Finish → Type 0
     FinishedBy = Finished p budget round last
 
-    pub finished_from : (held : Held) → IsAt start unit.indices held → (f : Finish)
+    pub finished_from : (held : Held) → held.first ≡ front (take unit.indices start) (replicate 16 0) → (f : Finish)
         → Finished (run_problem unit divisions losses (take unit.indices held.first)) budget round last f
         → FinishedBy f
     finished_from held A f F =
         subst
         (λ (v : List ℕ). Finished (run_problem unit divisions losses v) budget round last f)
-        (start_taken held A.0) F
+        (start_taken held A) F
 
     module _ (kind : Kind) (places h read : ℕ) (e : State)
         (A : Announced p budget kind (first_point_of kind) e h places read) where

@@ -22,7 +22,7 @@ use Rattle.moves.specs.declared.Status.{Status}
 use Rattle.path_laws.proofs.Filled.{FullyLabelled}
 use Rattle.path_laws.proofs.LabelsRead.{came_few, came_next, came_none}
 use Rattle.path_pass.specs.declared.Stand.{Stand}
-use Rattle.path_pass.specs.Finish.{Announced, IsBegun, labels_at}
+use Rattle.path_pass.specs.Finish.{Announced, HasBegun, IsBegun, labels_at}
 use Rattle.place.specs.LabelsRead.{came_in}
 use Rattle.place.specs.Path.{answer, path, spent}
 use Rattle.place.specs.Problem.{Problem}
@@ -70,13 +70,19 @@ module _ {g : Grid} {firsts owners rests losses : List ℕ} {indices : ℕ} {rou
   start-at : (k : ℕ) → k < num_indices g → at (take indices held.first) k ≡ at held.first k
   start-at k l = get_or-take indices held.first k 0 (omega (arith, w.many))
 
-  pub begins : (s : Status) → IsBegun held.first indices s → BareAt p (state_of round held s) 0
-  begins s B = record {
+  pub begins : (new : Held) (stand : Stand) → HasBegun held new indices stand → BareAt p (state_of round new stand.status) 0
+  begins new stand H = record {
     full = begun round held.first s.u;
     at = at_begin (game_full w) w.is_round held.first s.u held.first_long (λ k l. sym (start-at k l)) mask_at;
-    is = rw (w.no_coefficients, w.no_marks, B.rule, B.none, B.empty, B.active);
+    is = rw (H.first, H.no_coefficients, H.no_marks, B.rule, B.none, B.empty, B.active);
   }
     where
+      s : Status
+      s = stand.status
+
+      B : IsBegun held.first indices s
+      B = H.status
+
       mask_at : (k : ℕ) → k < 16 → bit s.u k ≡ (ltb k (num_indices g) && eqb (at (take indices held.first) k) 0)
       mask_at k l = ⊎_elim
           (λ (x : k < indices). B.zeros k l

@@ -1,5 +1,5 @@
 -- What the pass along the path of a game asks. Assumes nothing.
-use Rattle.std.specs.Prelude.{true, List, [], ◌≡◌, ℕ, ◌<◌, leb, length, replicate, take}
+use Rattle.std.specs.Prelude.{true, List, [], ◌≡◌, ℕ, ◌<◌, leb, length, take}
 use Rattle.combinatorics.specs.Lists.{all}
 use Rattle.grid_points.specs.Grid.{Grid, Point, is_grid_point, lent, num_indices}
 use Rattle.solve_pass.specs.Bare.{labelled}
@@ -36,5 +36,3 @@ pub record CanPassGame (g : Grid) (firsts owners rests losses : List ℕ) (indic
   pub is_round : IsRound g round
   pub below : RoundBelow round
   pub start : is_grid_point g (take indices held.first) ≡ true
-  pub no_coefficients : held.coefficients ≡ replicate 16 0
-  pub no_marks : held.marks ≡ replicate 16 0

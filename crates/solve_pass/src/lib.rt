@@ -99,7 +99,7 @@ pub fn pass(
     ensures { let g = lent sizes.now divisions.now in
         Finished (game_problem g (take indices held.old.first) losses.now) budget round.now held.new result }
 {
-    let mut at = begun(&held.first, indices);
+    let mut at = begun(held, indices);
     for visited in 0..budget {
         let outcome = visit(
             sizes, divisions, firsts, owners, rests, losses, indices, round, held, at.status,

@@ -3,15 +3,15 @@
 #![tactic(auto)]
 
 ghost use Rattle.std.specs.Prelude.{◌≡◌, ◌%◌, ◌≤◌, ◌<◌, get_or, length};
-ghost use Rattle.arrays.specs.Rounds.{round_of};
-ghost use Rattle.moves.specs.Held.{held, state_of};
+ghost use Rattle.moves.specs.Held.{state_of};
 ghost use Rattle.rules.specs.Moves.{State};
 ghost use Rattle.trail_steps.specs.Reading.{CanGoOn};
 ghost use Rattle.trail_following.specs.Reached.{ReachesFrom};
 
 use grid::Grid;
-use moves::{Outcome, Status};
+use moves::{Held, Outcome, Status};
 use positions::ENTRIES;
+use rules::Round;
 use trail_records::IndexSets;
 use trail_steps::{arrive, way_on};
 use ways::{gone_by, moved_by};
@@ -31,69 +31,35 @@ fn low_bit(trail: &[u8], at: usize) -> u64
     u64::from(trail[at] % 2)
 }
 
-// The place to which the next records lead from the place in the arrays, if they lead to one.
+// The place to which the next records lead from the place that is held, if they lead to one.
 pub fn follow(
     g: Grid,
     binomials: &[u16; ENTRIES],
     tails: &[u32; 16],
-    previous: &[u8; 16],
-    next: &[u8; 16],
-    sizes: &[u8; 16],
-    first: &mut [u16; 16],
-    coefficients: &mut [u16; 16],
-    order: &mut [u32; 16],
-    marks: &mut [u32; 16],
+    round: &Round,
+    held: &mut Held,
     begun: Status,
     trail: &[u8],
     from: usize,
     number: u64,
 ) -> Option<Reached>
-    requires { let a = held (round_of previous.now next.now sizes.now) first.old coefficients.old order.old
-        marks.old begun in
-        CanGoOn g binomials.now tails.now order.old marks.old a begun.count
-        (length trail.now) from }
-    ensures { let a = held (round_of previous.now next.now sizes.now) first.old coefficients.old order.old
-        marks.old begun in
-        ReachesFrom g tails.now trail.now from a number order.new
-        (state_of a.round first.new coefficients.new order.new
-        marks.new) result }
+    requires { CanGoOn g binomials.now tails.now (state_of round.now held.old begun) (length trail.now) from }
+    ensures { ReachesFrom g tails.now trail.now from (state_of round.now held.old begun) number
+        (state_of round.now held.new) result }
 {
     let mut s = begun;
     let mut at = from;
     let mut came = 0u64;
     for _record in 0..number {
-        let way = way_on(trail, at, marks, s, g.indices);
-        let gone = gone_by(way, marks, s);
+        let way = way_on(trail, at, &held.marks, s, g.indices);
+        let gone = gone_by(way, &held.marks, s);
         let before = IndexSets { t: s.t, u: s.u };
-        let outcome = moved_by(
-            previous,
-            next,
-            sizes,
-            first,
-            coefficients,
-            order,
-            marks,
-            s,
-            way,
-        );
+        let outcome = moved_by(held, round, s, way);
         let Outcome::Moved(status) = outcome else {
             return None;
         };
         let bytes = arrive(
-            g,
-            binomials,
-            tails,
-            previous,
-            sizes,
-            first,
-            coefficients,
-            order,
-            marks,
-            before,
-            status,
-            gone,
-            trail,
-            at,
+            g, binomials, tails, round, held, before, status, gone, trail, at,
         );
         if bytes == 0 {
             return None;

@@ -9,7 +9,6 @@ use lib.Dec.{eqb, ltb}
 use lib.ListN.{length, replicate, set, take}
 use lib.Seq.{get_or-take}
 use native.Mathlib.Omega.{arith}
-use Rattle.arrays.specs.Rounds.{round_of}
 use Rattle.combinatorics.proofs.Basics.{before_or_not}
 use Rattle.combinatorics.specs.Lists.{is_in, sum, up_from}
 use Rattle.path_pass.specs.Finish.{IsBegun}
@@ -17,7 +16,7 @@ use Rattle.grid.proofs.Fields.{made-indices}
 use Rattle.grid_points.specs.Grid.{at, num_indices, position}
 use Rattle.grid.specs.Made.{IsMade, shape}
 use Rattle.grid.specs.declared.Grid.{Grid as GridStruct}
-use Rattle.moves.specs.Held.{state_of}
+use Rattle.moves.specs.Held.{state_with}
 use Rattle.moves.specs.declared.Status.{Status}
 use Rattle.place.specs.Places.{Simplex, is_unlabelled_place, order as order_of}
 use Rattle.place.specs.Problem.{Problem, with_labels}
@@ -39,16 +38,13 @@ use Rattle.trail_steps.specs.Shows.{Shows, bare}
 use Rattle.trail_steps.specs.Reading.{HasRead, problem_by}
 
 module _ (g : GridStruct) (made : IsMade g) (first : List ℕ) (ok : HasStart (problem_by g (take g.indices first)))
-    (previous next sizes order : List ℕ) (N : IsRound (shape g) (round_of previous next sizes))
-    (size : length first ≡ 16) (s : Status) (B : IsBegun first g.indices s) where
+    (round : Round) (N : IsRound (shape g) round) (order : List ℕ) (size : length first ≡ 16) (s : Status)
+    (B : IsBegun first g.indices s) where
   abbrev p : Problem
   p = problem_by g (take g.indices first)
 
   abbrev v : Simplex
   v = p.start ∷ []
-
-  abbrev round : Round
-  round = round_of previous next sizes
 
   m : g.indices ≡ num_indices (shape g)
   m = made-indices g made
@@ -90,7 +86,7 @@ module _ (g : GridStruct) (made : IsMade g) (first : List ℕ) (ok : HasStart (p
     -- with its position in its mark, {v} is held
     pub v_read : (c : ℕ) → c ≡ position (shape g) p.start
         → HasRead g (take g.indices first) tails v
-        (state_of round first (replicate 16 0) order (set (replicate 16 0) 0 (c * 256)) s)
+        (state_with round first (replicate 16 0) order (set (replicate 16 0) 0 (c * 256)) s)
     v_read c e = record { has_start = ok; shows = shown; sums = sums }
       where
         L : Labelled p v 0 0 table.0
@@ -103,7 +99,7 @@ module _ (g : GridStruct) (made : IsMade g) (first : List ℕ) (ok : HasStart (p
             (coefficients_of (with_labels p table.0) v) (begun round first s.u)
         D = described L
 
-        shown : Shows p v (state_of round first (replicate 16 0) order (set (replicate 16 0) 0 (c * 256)) s)
+        shown : Shows p v (state_with round first (replicate 16 0) order (set (replicate 16 0) 0 (c * 256)) s)
         shown = rw (B.rule, B.none, B.empty, B.active, mark-is) (record {
           T = in_t (with_labels p table.0) v;
           t = 0;

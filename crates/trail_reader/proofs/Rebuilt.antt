@@ -7,15 +7,14 @@ use mathlib.Core.Path.{◌≡◌, refl, sym, ap, ◌∙◌}
 use Prim.Native.Nat.{ℕ, suc, ◌+◌, ◌-◌, ◌*◌, ◌≤◌, ◌<◌}
 use borrow.Author.Tests.{eq-eqb, ne_eqb}
 use lib.Dec.{eqb}
-use lib.ListN.{drop, length, length-append, length-replicate, length-take, replicate, take}
+use lib.ListN.{drop, length, length-append, replicate, take}
 use lib.Seq.{take-length}
 use native.Mathlib.Nat.{mul-le-mul}
 use native.Mathlib.Omega.{arith}
-use Rattle.arrays.specs.Rounds.{round_of}
-use Rattle.combinatorics.proofs.Fronts.{front_length, front-none, front_taken}
+use Rattle.combinatorics.proofs.Fronts.{front-none, front_taken}
 use Rattle.combinatorics.specs.Front.{front}
 use Rattle.combinatorics.specs.Lists.{concat_map}
-use Rattle.grid.proofs.Fields.{indices-few, made-accepted, made-indices}
+use Rattle.grid.proofs.Fields.{made-accepted, made-indices}
 use Rattle.grid_points.specs.Grid.{is_grid_point, num_indices, position}
 use Rattle.grid.specs.Made.{IsMade, shape}
 use Rattle.grid_points.specs.Questions.{grid_questions, question5}
@@ -23,6 +22,7 @@ use Rattle.grid_points.proofs.CoordinatesBelow.{low-divisions}
 use Rattle.grid_points.proofs.Points.{point-long}
 use Rattle.grid.specs.declared.Grid.{Grid as GridStruct}
 use Rattle.moves.specs.Held.{state_of}
+use Rattle.moves.specs.declared.holding.Held.{Held}
 use Rattle.moves.specs.declared.Status.{Status}
 use Rattle.place.specs.LabelsRead.{came_in, labels_read}
 use Rattle.place.specs.Places.{Simplex, set_t, set_u}
@@ -34,6 +34,7 @@ use Rattle.trail_records.specs.Records.{first_record}
 use Rattle.rules.proofs.StatePoints.{all-points, ready-point}
 use Rattle.rules.specs.Read.{CanCompute, numbers_from, points_from}
 use Rattle.rules.specs.Moves.{State}
+use Rattle.rules.specs.declared.Round.{Round}
 use Rattle.trail.proofs.Tables.{some-index, some-table}
 use Rattle.trail.proofs.Tells.{begins_with}
 use Rattle.trail.specs.Record.{start_record}
@@ -124,13 +125,12 @@ minus_none n = omega arith
 
 -- so the reader's answer is that of the place
 pub reads_by : (g : GridStruct) → IsMade g → (start trail : List ℕ) (number : ℕ) → HasStart (problem_by g start)
-    → (b : Simplex) (previous next sizes first coefficients order marks : List ℕ) (status : Status) (labels : ℕ)
-    → Shows (problem_by g start) b (state_of (round_of previous next sizes) first coefficients order marks status)
-    → (old : List ℕ) (r : Reading)
-    → IsPlace (state_of (round_of previous [] sizes) first [] order [] status) g.indices status labels old r
+    → (b : Simplex) (round : Round) (held : Held) (status : Status) (labels : ℕ)
+    → Shows (problem_by g start) b (state_of round held status) → (old : List ℕ) (r : Reading)
+    → IsPlace (state_of round held status) g.indices status labels old r
     → reading (problem_by g start) trail number ≡ placed labels b (set_t (problem_by g start) b) (set_u (shape g) b)
     → Reads g start trail number old r
-reads_by g made start trail number ok b previous next sizes first coefficients order marks status labels S old r I e =
+reads_by g made start trail number ok b round held status labels S old r I e =
     record {
       answer = I.answer ∙ case_is ok S labels I.low_t I.low_u ∙ ap read_case (sym e);
       points = I.points
@@ -251,9 +251,3 @@ module _ (g : GridStruct) (made : IsMade g) (start : List ℕ) (ok : HasStart (p
 
     pub start_taken : take g.indices first ≡ start
     start_taken = rw (e, all_taken, ← start-long) (front_taken start (replicate 16 0))
-
-    pub first-long : length first ≡ 16
-    first-long = rw e
-        (front_length (take g.indices start) (replicate 16 0)
-        (rw (length-replicate, length-take) (omega (arith, indices-few g made)))
-        ∙ length-replicate {A = ℕ} 16 0)

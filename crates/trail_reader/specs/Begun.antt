@@ -1,9 +1,10 @@
 -- What the reading behind questions 1 to 5 asks and gives. The reader's own promise does not cite it. Assumes nothing.
-use Rattle.std.specs.Prelude.{List, ◌≡◌, ℕ, suc, ◌<◌, length, take}
+use Rattle.std.specs.Prelude.{List, ◌≡◌, ℕ, suc, ◌<◌, length, replicate, take}
 use Rattle.combinatorics.specs.Front.{front}
 use Rattle.grid_points.specs.Grid.{position}
 use Rattle.grid.specs.Made.{IsMade, shape}
 use Rattle.grid.specs.declared.Grid.{Grid as GridStruct}
+use Rattle.moves.specs.declared.holding.Held.{Held}
 use Rattle.moves.specs.declared.Status.{Status}
 use Rattle.path_laws.specs.Demand.{HasStart}
 use Rattle.positions.specs.Binomials.{Measured}
@@ -30,13 +31,14 @@ pub record CanLocate (g : GridStruct) (binomials first : List ℕ) : Type 0 wher
 abbrev pub IsLocated : GridStruct → List ℕ → ℕ → Type 0
 IsLocated g first r = (r ≡ position (shape g) (take g.indices first)) × (r < 65536)
 
--- what the reading asks with the start in an array
-pub record CanRebuild (g : GridStruct) (round : Round) (binomials first : List ℕ) : Type 0 where
+-- what the reading asks with {v} held, before the mark of its point is stored
+pub record CanRebuild (g : GridStruct) (round : Round) (binomials : List ℕ) (held : Held) : Type 0 where
   pub measured : Measured g binomials
   pub is_round : IsRound (shape g) round
   pub below : RoundBelow round
-  pub first_length : length first ≡ 16
-  pub has_start : HasStart (problem_by g (take g.indices first))
+  pub no_coefficients : held.coefficients ≡ replicate 16 0
+  pub no_marks : held.marks ≡ replicate 16 0
+  pub has_start : HasStart (problem_by g (take g.indices held.first))
 
 -- the place that a state holds, with masks of 16 bits and the labels read; its points over the old contents
 pub record IsPlace (a : State) (m : ℕ) (s : Status) (labels : ℕ) (old : List ℕ) (r : Reading) : Type 0 where

@@ -1,6 +1,5 @@
 // The reader of a trail: the customer's call.
 ghost use Rattle.std.specs.Prelude.{[], ◌≡◌, ◌<◌, length, take};
-ghost use Rattle.arrays.specs.Rounds.{round_of};
 ghost use Rattle.moves.specs.Held.{state_of};
 ghost use Rattle.moves.specs.Room.{CanPut};
 ghost use Rattle.place.specs.Problem.{problem_of};
@@ -8,11 +7,12 @@ ghost use Rattle.rules.specs.Moves.{State};
 ghost use Rattle.trail_reader.specs.Begun.{CanLocate, CanReadTrail, CanRebuild, IsLocated, IsPlace, Reads};
 ghost use Rattle.trail_reader.specs.Reading.{read_answer, read_points};
 
-use arrays::{block_sizes, padded};
+use arrays::round_of;
 use grid::Grid;
-use moves::{Status, put_points};
+use moves::{Held, Status};
 use path_pass::begin;
 use positions::ENTRIES;
+use rules::Round;
 use trail_following::follow;
 use trail_records::{first_record, stands};
 
@@ -52,24 +52,21 @@ fn mask(x: u16) -> u16
     x
 }
 
-// The place that the arrays hold, its points over the contents that are lent.
+// The place that is held, its points over the contents that are lent.
 fn placed(
-    previous: &[u8; 16],
-    sizes: &[u8; 16],
-    first: &[u16; 16],
-    order: &[u32; 16],
+    round: &Round,
+    held: &Held,
     s: Status,
     m: usize,
     labels_read: u64,
     lent: [u16; 256],
 ) -> Reading
-    requires { let a = state_of (round_of previous.now [] sizes.now) first.now [] order.now [] s in
+    requires { let a = state_of round.now held.now s in
         CanPut a m 0 (length lent) × (length a.order ≡ s.count) }
-    ensures { let a = state_of (round_of previous.now [] sizes.now) first.now [] order.now [] s in
-        IsPlace a m s labels_read lent result }
+    ensures { IsPlace (state_of round.now held.now s) m s labels_read lent result }
 {
     let mut points = lent;
-    let count = put_points(&mut points, previous, sizes, first, order, s, m, 0);
+    let count = held.put_points(round, s, m, 0, &mut points);
     let answer = ReadAnswer::Place {
         points: count,
         t: mask(s.t),
@@ -87,56 +84,33 @@ fn start_position(g: Grid, binomials: &[u16; ENTRIES], first: &[u16; 16]) -> usi
     positions::position(g, binomials, first, &[16; 16])
 }
 
-// The place at a record, the start being the first point that is lent.
+// The place at a record, {v} being held.
 fn rebuilt(
     g: Grid,
     binomials: &[u16; ENTRIES],
-    previous: &[u8; 16],
-    next: &[u8; 16],
-    sizes: &[u8; 16],
-    first: &mut [u16; 16],
+    round: &Round,
+    held: &mut Held,
     trail: &[u8],
     number: u64,
     points: [u16; 256],
 ) -> Reading
-    requires can_rebuild { let w = round_of previous.now next.now sizes.now in
-        CanRebuild g w binomials.now first.old }
+    requires can_rebuild { CanRebuild g round.now binomials.now held.old }
     requires number_nonzero { 0 < number }
-    ensures { Reads g (take g.indices first.old) trail.now number points result }
+    ensures { Reads g (take g.indices held.old.first) trail.now number points result }
 {
-    let mut coefficients = [0u16; 16];
-    let mut order = [0u32; 16];
-    let mut marks = [0u32; 16];
-    let s = begin(first, g.indices);
-    let tails = positions::tails(first, g.indices);
-    let position = start_position(g, binomials, first);
+    let s = begin(&held.first, g.indices);
+    let tails = positions::tails(&held.first, g.indices);
+    let position = start_position(g, binomials, &held.first);
     if !stands(trail, 0, first_record(position)) {
         return refused(17, points);
     }
-    marks[0] = position as u32 * 256;
-    let Some(reached) = follow(
-        g,
-        binomials,
-        &tails,
-        previous,
-        next,
-        sizes,
-        first,
-        &mut coefficients,
-        &mut order,
-        &mut marks,
-        s,
-        trail,
-        3,
-        number - 1,
-    ) else {
+    held.marks[0] = position as u32 * 256;
+    let Some(reached) = follow(g, binomials, &tails, round, held, s, trail, 3, number - 1) else {
         return refused(17, points);
     };
     placed(
-        previous,
-        sizes,
-        first,
-        &order,
+        round,
+        held,
         reached.status,
         g.indices,
         reached.came + 1,
@@ -152,21 +126,11 @@ fn read_on(g: Grid, start: &[u16], trail: &[u8], number: u64, points: [u16; 256]
     if number == 0 {
         return refused(17, points);
     }
-    let sizes = block_sizes(g);
+    let round = round_of(g);
     let mut binomials = [0u16; ENTRIES];
     positions::binomials(g, &mut binomials);
-    let mut first = padded(start, g.indices);
-    rebuilt(
-        g,
-        &binomials,
-        &g.previous,
-        &g.next,
-        &sizes,
-        &mut first,
-        trail,
-        number,
-        points,
-    )
+    let mut held = Held::at(start, g.indices);
+    rebuilt(g, &binomials, &round, &mut held, trail, number, points)
 }
 
 // Questions 1 to 5, then 17, on every input: the place at a record of the trail, the records counted from 1. Only the

@@ -1,30 +1,28 @@
 -- From what the bytes name, the move and the comparison to the next place of a reading. Assumes nothing.
-use mathlib.Core.Bool.{true, false, cond}
+use mathlib.Core.Bool.{true, false}
 use mathlib.Core.List.{List, [], ◌∷◌}
 use mathlib.Core.Logic.{⊎_elim}
 use mathlib.Core.Option.{none}
 use mathlib.Core.Path.{◌≡◌, refl, sym, ap, ◌∙◌, subst}
 use Prim.Native.Nat.{ℕ, suc, ◌*◌, ◌≤◌, ◌<◌}
 use borrow.Author.Tests.{le-ltb, lt-ltb}
-use lib.Dec.{ltb}
-use lib.ListN.{drop, length, length-drop, length-set, set, take}
-use lib.Seq.{drop-drop, take-set-lt}
+use lib.ListN.{drop, length, length-drop, take}
+use lib.Seq.{drop-drop}
 use native.Mathlib.Omega.{arith}
-use Rattle.arrays.specs.Rounds.{no_round, round_of}
 use Rattle.combinatorics.proofs.Basics.{before_or_not}
 use Rattle.combinatorics.proofs.EditsOfArrays.{counted}
-use Rattle.path_pass.proofs.Visits.{marks-back}
 use Rattle.geometry.proofs.Points.{nth}
 use Rattle.grid.proofs.Fields.{made-accepted, made-blocks}
 use Rattle.grid_points.specs.Grid.{position}
 use Rattle.grid.specs.Made.{IsMade}
 use Rattle.grid.specs.declared.Grid.{Grid as GridStruct}
 use Rattle.moves.specs.Held.{state_of}
+use Rattle.moves.specs.declared.holding.Held.{Held}
 use Rattle.moves.specs.declared.Status.{Status}
 use Rattle.place.specs.Places.{Simplex}
 use Rattle.place.specs.Problem.{Problem}
 use Rattle.trail_records.specs.declared.IndexSets.{IndexSets}
-use Rattle.rules.specs.Ready.{RoundBelow, SixteenEach}
+use Rattle.rules.specs.Ready.{RoundBelow}
 use Rattle.rules.specs.Moves.{After, State, goes}
 use Rattle.rules.specs.declared.Round.{Round}
 use Rattle.trail.proofs.Rules.{record_short}
@@ -33,73 +31,65 @@ use Rattle.trail.specs.Record.{record_of}
 use Rattle.trail.specs.Trail.{begins, rebuilt_from}
 use Rattle.trail_steps.proofs.Reached.{Arrives, stored}
 use Rattle.marks.specs.Reading.{CanFind}
-use Rattle.trail_steps.specs.Shows.{Shows}
+use Rattle.trail_steps.specs.Shows.{Shows, with_marks}
 use Rattle.trail_steps.proofs.Arrived.{OnlyPlace, WayLeads, goes_on, inside, leads_nowhere, leads_on, not_there}
 use Rattle.trail_steps.proofs.Arrived.{position-low, record_is}
 use Rattle.trail_steps.proofs.Named.{shows-few}
 use Rattle.trail_steps.specs.Reading.{HasRead, Leads, come_position, marks_with, problem_by, record_made, way_of}
+use Rattle.ways.specs.Ways.{held_marks}
 
 -- what the marks and the status alone tell is what the state tells
-pub same_way : (m n : ℕ) (round : Round) (first coefficients order marks : List ℕ) (s : Status) (bytes : List ℕ)
-    → way_of m n (state_of no_round [] [] [] marks s) bytes
-    ≡ way_of m n (state_of round first coefficients order marks s) bytes
+pub same_way : (m n : ℕ) (round : Round) (held : Held) (s : Status) (bytes : List ℕ)
+    → way_of m n (held_marks held.marks s) bytes ≡ way_of m n (state_of round held s) bytes
 unfolding way_of
-same_way m n round first coefficients order marks s bytes = refl
+same_way m n round held s bytes = refl
 
--- the mark that is stored in its array
-stored_in : (round : Round) (first coefficients order marks : List ℕ) (s : Status) (c : ℕ)
-    → (s.rule < 6 → s.active ≤ s.count)
-    → state_of round first coefficients order (cond (ltb s.rule 6) (set marks s.active c) marks) s
-    ≡ stored (state_of round first coefficients order marks s) c
-stored_in round first coefficients order marks s c low = ⊎_elim
-    (λ (r : s.rule < 6).
-    rw (lt-ltb s.rule 6 r, take-set-lt (suc s.count) marks s.active c (omega (arith, low r))))
-    (λ (r : 6 ≤ s.rule). rw (le-ltb s.rule 6 r))
-    (before_or_not s.rule 6)
+-- a state that holds a place has as many steps as its status counts
+pub steps_counted : (g : GridStruct) (start tails : List ℕ) {a : Simplex} (round : Round) (held : Held) (s : Status)
+    → (H : HasRead g start tails a (state_of round held s)) → s.count ≡ H.shows.t
+steps_counted g start tails round held s H =
+    let few = shows-few H.has_start H.shows in
+    sym (counted held.order s.count held.order_long (omega (arith, H.shows.order_length, few))) ∙ H.shows.order_length
 
 module _ (g : GridStruct) (made : IsMade g) (start tails : List ℕ) {a : Simplex} {s : State}
     (H : HasRead g start tails a s) (trail : List ℕ) (at n : ℕ) (count : n ≡ H.shows.t) where
   abbrev p : Problem
   p = problem_by g start
 
-  -- after the move, in its arrays
-  module _ (previous next sizes first coefficients order marks : List ℕ) (status : Status)
-      (each : SixteenEach order marks) (below : RoundBelow (round_of previous next sizes)) (gone : ℕ) where
+  -- after the move, in what is held
+  module _ (round : Round) (held : Held) (status : Status) (below : RoundBelow round) (gone : ℕ) where
     abbrev after : State
-    after = state_of (round_of previous next sizes) first coefficients order marks status
-
-    abbrev back : State
-    back = state_of (round_of previous [] sizes) first coefficients order marks status
+    after = state_of round held status
 
     module _ (b : Simplex) (A : Arrives p a b after) where
       -- the point that has come in
-      come-is : status.rule < 6 → come_position g back ≡ position p.grid (nth b status.active)
+      come-is : status.rule < 6 → come_position g after ≡ position p.grid (nth b status.active)
       come-is r = rw (lt-ltb status.rule 6 r) (ap (position p.grid) (A.point r))
 
-      held : Shows p b (stored after (come_position g back * 256))
-      held = A.shows (come_position g back * 256) (λ r. rw (come-is r) (omega arith))
+      shown : Shows p b (stored after (come_position g after * 256))
+      shown = A.shows (come_position g after * 256) (λ r. rw (come-is r) (omega arith))
 
-      many : length (take status.count order) ≡ status.count
+      many : length (take status.count held.order) ≡ status.count
       many =
-          counted order status.count each.in_order (omega (arith, held.order_length, shows-few H.has_start held))
+          counted held.order status.count held.order_long (omega (arith, shown.order_length, shows-few H.has_start shown))
 
-      pub can_find : status.rule < 6 → CanFind g tails back status
+      pub can_find : status.rule < 6 → CanFind g tails after status
       can_find r = record {
         reads = record {
           below = below.backward;
-          first_length = held.first_length;
+          first_length = held.first_long;
           point = A.reads r;
           on_grid = A.on_grid r;
         };
-        marks = marks-back g previous next sizes first coefficients order marks status tails (record {
+        marks = record {
           square = A.square;
           beside = λ one.
               A.beside r (made-accepted g made).few_points (sym (made-blocks g made) ∙ one) tails H.sums;
-        });
+        };
         many = many;
       }
 
-      pub come-low : come_position g back < 65536
+      pub come-low : come_position g after < 65536
       come-low =
           ⊎_elim (λ (r : status.rule < 6). rw (lt-ltb status.rule 6 r)
           (position-low H.has_start (made-accepted g made).few_points _ (A.on_grid r)))
@@ -107,8 +97,8 @@ module _ (g : GridStruct) (made : IsMade g) (start tails : List ℕ) {a : Simple
 
       made-is : ((x : ℕ) → (change p a b).points_out ≡ x ∷ [] → gone ≡ x) → (before : IndexSets) → before.t ≡ s.T
           → before.u ≡ s.U
-          → record_made g back before gone ≡ record_of p a b
-      made-is out before t u = rw (t, u) (record_is H.has_start H.shows A (come_position g back) gone come-is out)
+          → record_made g after before gone ≡ record_of p a b
+      made-is out before t u = rw (t, u) (record_is H.has_start H.shows A (come_position g after) gone come-is out)
 
       some_bytes : 1 ≤ length (record_of p a b)
       unfolding record_of
@@ -118,44 +108,28 @@ module _ (g : GridStruct) (made : IsMade g) (start tails : List ℕ) {a : Simple
           (out : (x : ℕ) → (change p a b).points_out ≡ x ∷ [] → gone ≡ x) (before : IndexSets) (t : before.t ≡ s.T)
           (u : before.u ≡ s.U) (low : at ≤ length trail) where
         -- the bytes begin with the record, and it leads to the place
-        pub to-next : (new : List ℕ) → new ≡ marks_with g back marks
-            → begins (record_made g back before gone) (drop at trail) ≡ true
-            → (bytes : ℕ) → bytes ≡ length (record_made g back before gone)
-            → Leads g start trail a at order new
-            (state_of (round_of previous next sizes) first coefficients order new status)
-            status.count bytes
+        pub to-next : (new : Held) → state_of round new status ≡ with_marks after (marks_with g after after.marks)
+            → begins (record_made g after before gone) (drop at trail) ≡ true
+            → (bytes : ℕ) → bytes ≡ length (record_made g after before gone)
+            → Leads g start trail a at (state_of round new status) bytes
         to-next new m stands bytes e =
             let same = made-is out before t u in
             let yes : begins (record_of p a b) (drop at trail) ≡ true =
             subst (λ (r : List ℕ). begins r (drop at trail) ≡ true) same stands in
             let bytes-are : bytes ≡ length (record_of p a b) = e ∙ ap length same in
             let fits = inside H.has_start H.shows (drop at trail) n count b yes in
-            let state : state_of (round_of previous next sizes) first coefficients order new status
-            ≡ stored after (come_position g back * 256) =
-            ap (λ (m : List ℕ). state_of (round_of previous next sizes) first coefficients order m status) m
-            ∙ stored_in (round_of previous next sizes) first coefficients order marks status (come_position g back * 256)
-            (λ r. omega (arith, A.active r, many)) in
             record {
               next = b;
-              shows = subst (Shows p b) (sym state) held;
-              each = record { in_order = each.in_order; in_marks = ap length m ∙ sixteen };
-              many = many;
+              shows = subst (Shows p b) (sym m) shown;
               inside = omega (arith, fits, length-drop at trail, bytes-are, low);
               some = omega (arith, some_bytes, bytes-are);
               reads = λ k. goes_on H.has_start H.shows (drop at trail) n count O yes k
                   ∙ ap (rebuilt_from p k b)
                   (ap (λ (m : ℕ). drop m (drop at trail)) (sym bytes-are) ∙ drop-drop bytes at trail);
             }
-          where
-            sixteen : length (marks_with g back marks) ≡ 16
-            sixteen = ⊎_elim
-                (λ (r : status.rule < 6).
-                rw (lt-ltb status.rule 6 r) (length-set marks status.active _ ∙ each.in_marks))
-                (λ (r : 6 ≤ status.rule). rw (le-ltb status.rule 6 r) each.in_marks)
-                (before_or_not status.rule 6)
 
         -- they do not, and it leads nowhere
-        pub to_none : begins (record_made g back before gone) (drop at trail) ≡ false → (k : ℕ)
+        pub to_none : begins (record_made g after before gone) (drop at trail) ≡ false → (k : ℕ)
             → rebuilt_from p (suc k) a (drop at trail) ≡ none
         to_none differs =
             not_there H.has_start H.shows (drop at trail) n count O

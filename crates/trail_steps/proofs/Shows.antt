@@ -22,21 +22,7 @@ use Rattle.rules.proofs.Describes.{AllMarks, Describes, labels_of, mark_at}
 use Rattle.rules.proofs.Range.{nth_points_of}
 use Rattle.rules.specs.Moves.{State}
 use Rattle.trail.proofs.Tables.{Labelled}
-use Rattle.trail_steps.specs.Shows.{Shows}
-
--- the same state with other marks
-abbrev pub with_marks : State → List ℕ → State
-with_marks s marks = record {
-  round = s.round;
-  first = s.first;
-  coefficients = s.coefficients;
-  order = s.order;
-  marks = marks;
-  T = s.T;
-  U = s.U;
-  active = s.active;
-  rule = s.rule;
-}
+use Rattle.trail_steps.specs.Shows.{Shows, with_marks}
 
 -- the label suc k names the index k
 names : (m k : ℕ) → k < m → index_of m (suc k) ≡ k

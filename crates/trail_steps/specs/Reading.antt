@@ -15,7 +15,7 @@ use Rattle.trail_records.specs.Records.{record_from}
 use Rattle.trail_records.specs.declared.IndexSets.{IndexSets}
 use Rattle.rules.specs.Mask.{bit}
 use Rattle.rules.specs.Read.{point_on}
-use Rattle.rules.specs.Ready.{RoundBelow, SixteenEach}
+use Rattle.rules.specs.Ready.{RoundBelow}
 use Rattle.rules.specs.Moves.{State, mark_position}
 use Rattle.trail.specs.Trail.{begins, rebuilt_from}
 use Rattle.trail_steps.specs.Shows.{Shows}
@@ -50,10 +50,9 @@ abbrev pub record_made : GridStruct → State → IndexSets → ℕ → List ℕ
 record_made g a before gone = record_from before.t before.u a.T a.U (come_position g a) gone
 
 -- it can be compared with the bytes
-pub record CanCompare (g : GridStruct) (a : State) (gone marks room at : ℕ) : Type 0 where
+pub record CanCompare (g : GridStruct) (a : State) (gone room at : ℕ) : Type 0 where
   pub come : come_position g a < 65536
   pub out : gone < 65536
-  pub sixteen : marks ≡ 16
   pub low : at ≤ room
 
 -- how many bytes it has, where the bytes begin with it; else 0
@@ -76,22 +75,17 @@ pub record HasRead (g : GridStruct) (start tails : List ℕ) (a : Simplex) (s : 
   pub sums : (k : ℕ) → k < num_indices (shape g) → at tails k ≡ tail_from (shape g) start k
 
 -- what the next record asks
-pub record CanGoOn (g : GridStruct) (binomials tails order marks : List ℕ) (s : State) (count room at : ℕ)
-    : Type 0 where
+pub record CanGoOn (g : GridStruct) (binomials tails : List ℕ) (s : State) (room at : ℕ) : Type 0 where
   pub measured : Measured g binomials
   pub below : RoundBelow s.round
-  pub each : SixteenEach order marks
-  pub many : length s.order ≡ count
   pub place : (start : List ℕ) × (a : Simplex) × HasRead g start tails a s
   pub low : at ≤ room
 
 -- the record leads from the place a to the place b
-pub record Leads (g : GridStruct) (start trail : List ℕ) (a : Simplex) (at : ℕ) (order marks : List ℕ) (s : State)
-    (count bytes : ℕ) : Type 0 where
+pub record Leads (g : GridStruct) (start trail : List ℕ) (a : Simplex) (at : ℕ) (s : State) (bytes : ℕ)
+    : Type 0 where
   pub next : Simplex
   pub shows : Shows (problem_by g start) next s
-  pub each : SixteenEach order marks
-  pub many : length s.order ≡ count
   pub inside : at + bytes ≤ length trail
   pub some : 1 ≤ bytes
   pub reads : (n : ℕ)

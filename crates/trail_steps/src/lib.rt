@@ -3,21 +3,22 @@
 #![tactic(auto)]
 
 ghost use Rattle.std.specs.Prelude.{[], map, ◌≡◌, suc, ◌+◌, ◌*◌, ◌≤◌, ◌<◌, drop, get_or, length, take};
-ghost use Rattle.arrays.specs.Rounds.{round_of};
 ghost use Rattle.combinatorics.specs.Edits.{found};
 ghost use Rattle.marks.specs.Reading.{CanFind};
-ghost use Rattle.moves.specs.Held.{held};
+ghost use Rattle.moves.specs.Held.{state_of};
 ghost use Rattle.positions.specs.Binomials.{Measured};
 ghost use Rattle.rules.specs.Moves.{State, mark_position};
 ghost use Rattle.trail_steps.specs.Reading.{CanCompare, bytes_standing, come_position, joining, leaving};
 ghost use Rattle.trail_steps.specs.Reading.{marks_with, way_of};
+ghost use Rattle.trail_steps.specs.Shows.{with_marks};
 ghost use Rattle.ways.specs.Ways.{held_marks};
 
 use arrays::{has, position_at};
 use grid::Grid;
 use marks::position_in;
-use moves::Status;
+use moves::{Held, Status};
 use positions::ENTRIES;
+use rules::Round;
 use trail_records::{IndexSets, standing_bytes};
 use ways::Way;
 
@@ -31,7 +32,7 @@ fn word(trail: &[u8], at: usize) -> usize
 
 // The number of the point with a position, n being the number of steps; n + 1 where no point has it.
 fn point_with(marks: &[u32; 16], n: usize, position: usize) -> usize
-    requires { (n ≤ 15) × (length marks.now ≡ 16) }
+    requires { n ≤ 15 }
     ensures { result ≡ found position 16 (map mark_position (take (suc n) marks.now)) }
 {
     for k in 0..n + 1 {
@@ -44,7 +45,7 @@ fn point_with(marks: &[u32; 16], n: usize, position: usize) -> usize
 
 // The point with a position leaves, if the place has it and another.
 fn leaving(marks: &[u32; 16], s: Status, position: usize) -> Way
-    requires { (s.count ≤ 15) × (length marks.now ≡ 16) }
+    requires { s.count ≤ 15 }
     ensures { let a = held_marks marks.now s in result ≡ leaving a s.count position }
 {
     let i = point_with(marks, s.count, position);
@@ -67,7 +68,7 @@ fn joining(t: u16, m: usize, byte: usize) -> Way
 
 // What the record at a position of the trail names.
 pub fn way_on(trail: &[u8], at: usize, marks: &[u32; 16], s: Status, m: usize) -> Way
-    requires count_bound { (s.count ≤ 15) × (length marks.now ≡ 16) }
+    requires count_bound { s.count ≤ 15 }
     requires at_in_bounds { (at ≤ length trail.now) × (m ≤ 16) }
     ensures { let a = held_marks marks.now s in result ≡ way_of m s.count a (drop at trail.now) }
 {
@@ -94,32 +95,15 @@ fn come_in(
     g: Grid,
     binomials: &[u16; ENTRIES],
     tails: &[u32; 16],
-    previous: &[u8; 16],
-    sizes: &[u8; 16],
-    first: &[u16; 16],
-    coefficients: &[u16; 16],
-    order: &[u32; 16],
-    marks: &[u32; 16],
+    round: &Round,
+    held: &Held,
     s: Status,
 ) -> usize
-    requires { let a = held (round_of previous.now [] sizes.now) first.now coefficients.now order.now marks.now s in
-        Measured g binomials.now × (s.rule < 6 → CanFind g tails.now a s) }
-    ensures { let a = held (round_of previous.now [] sizes.now) first.now coefficients.now order.now marks.now s in
-        result ≡ come_position g a }
+    requires { Measured g binomials.now × (s.rule < 6 → CanFind g tails.now (state_of round.now held.now s) s) }
+    ensures { result ≡ come_position g (state_of round.now held.now s) }
 {
     if s.rule < 6 {
-        return position_in(
-            g,
-            binomials,
-            tails,
-            previous,
-            sizes,
-            first,
-            coefficients,
-            order,
-            marks,
-            s,
-        );
+        return position_in(g, binomials, tails, round, held, s);
     }
     0
 }
@@ -130,45 +114,24 @@ pub fn arrive(
     g: Grid,
     binomials: &[u16; ENTRIES],
     tails: &[u32; 16],
-    previous: &[u8; 16],
-    sizes: &[u8; 16],
-    first: &[u16; 16],
-    coefficients: &[u16; 16],
-    order: &[u32; 16],
-    marks: &mut [u32; 16],
+    round: &Round,
+    held: &mut Held,
     before: IndexSets,
     s: Status,
     gone: usize,
     trail: &[u8],
     at: usize,
 ) -> usize
-    requires measured { let a = held (round_of previous.now [] sizes.now) first.now coefficients.now order.now
-        marks.old s in
-        Measured g binomials.now × (s.rule < 6 → CanFind g tails.now a s) }
-    requires can_compare { let a = held (round_of previous.now [] sizes.now) first.now coefficients.now order.now
-        marks.old s in
-        CanCompare g a gone (length marks.old) (length trail.now) at }
-    ensures marks_after { let a = held (round_of previous.now [] sizes.now) first.now coefficients.now order.now
-        marks.old s in
-        marks.new ≡ marks_with g a marks.old }
-    ensures value { let a = held (round_of previous.now [] sizes.now) first.now coefficients.now order.now
-        marks.old s in
-        result ≡ bytes_standing g a before gone (drop at trail.now) }
+    requires measured { Measured g binomials.now
+        × (s.rule < 6 → CanFind g tails.now (state_of round.now held.old s) s) }
+    requires can_compare { CanCompare g (state_of round.now held.old s) gone (length trail.now) at }
+    ensures marked { let a = state_of round.now held.old s in
+        state_of round.now held.new s ≡ with_marks a (marks_with g a a.marks) }
+    ensures value { result ≡ bytes_standing g (state_of round.now held.old s) before gone (drop at trail.now) }
 {
-    let come = come_in(
-        g,
-        binomials,
-        tails,
-        previous,
-        sizes,
-        first,
-        coefficients,
-        order,
-        marks,
-        s,
-    );
+    let come = come_in(g, binomials, tails, round, held, s);
     if s.rule < 6 {
-        marks[s.active] = come as u32 * 256;
+        held.marks[s.active] = come as u32 * 256;
     }
     let after = IndexSets { t: s.t, u: s.u };
     standing_bytes(trail, at, before, after, come, gone)

@@ -56,7 +56,7 @@ pub fn tell(
     before: Before,
     writes: bool,
 ) -> usize
-    requires can_tell { let a = held_marks marks.now s in CanTell a s × (length marks.now ≡ 16) }
+    requires can_tell { CanTell (held_marks marks.now s) s }
     requires can_write { let a = held_marks marks.now s in writes ≡ true → CanWrite a s trail.old at before }
     ensures value { let a = held_marks marks.now s in writes ≡ true → result ≡ gone_by a (way_here a) }
     ensures trail_after { let a = held_marks marks.now s in trail.new ≡ with_record a trail.old at before writes }

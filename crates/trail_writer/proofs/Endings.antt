@@ -12,6 +12,7 @@ use Rattle.combinatorics.proofs.Basics.{absurd_bool}
 use Rattle.combinatorics.proofs.Fronts.{front-none}
 use Rattle.combinatorics.specs.Front.{front}
 use Rattle.end_kinds.specs.declared.Kind.{Kind}
+use Rattle.moves.specs.declared.holding.Held.{Held}
 use Rattle.moves.specs.declared.Status.{Status}
 use Rattle.path_pass.specs.Finish.{Finished}
 use Rattle.finder.specs.Run.{case_of, numbers_of, run_refusal}
@@ -31,15 +32,15 @@ use Rattle.trail_writer.specs.Writing.{unwritten, whole_trail}
 use Rattle.trail_writer.specs.declared.answers.TrailAnswer.{TrailAnswer}
 
 -- a pass whose path has an end has it too
-pub ends-again : (p : Problem) (budget : ℕ) (round : Round) (first order old new : List ℕ) (bytes : ℕ) (f : Finish)
+pub ends-again : (p : Problem) (budget : ℕ) (round : Round) (last : Held) (old new : List ℕ) (bytes : ℕ) (f : Finish)
     {n read : ℕ} {kind : Kind} {block vertices : ℕ} {simplex : Simplex}
-    → answer p budget ≡ ended n read kind block vertices simplex → Finished p budget round first order f
+    → answer p budget ≡ ended n read kind block vertices simplex → Finished p budget round last f
     → Recorded p true budget old new bytes f
     → new ≡ front (whole_trail p) old
-ends-again p budget round first order old new bytes (Ended kind places h s labels) e F R = R.1
-ends-again p budget round first order old new bytes (FinishUnknown places place) e F R =
+ends-again p budget round last old new bytes (Ended kind places h s labels) e F R = R.1
+ends-again p budget round last old new bytes (FinishUnknown places place) e F R =
     absurd (let z : ◌≡◌ {A = ℕ} 0 1 = cc in omega arith)
-ends-again p budget round first order old new bytes FinishSpent e F R =
+ends-again p budget round last old new bytes FinishSpent e F R =
     absurd (let z : ◌≡◌ {A = ℕ} 0 1 = cc in omega arith)
 
 module _ (p : Problem) (room : ℕ) where
@@ -58,34 +59,34 @@ module _ (p : Problem) (room : ℕ) where
   has_room_lem l n read kind block vertices simplex = rw (le-leb (length (whole_trail p)) room l)
 
 -- where the first pass finished, in a trail buffer of `room` bytes
-module _ (p : Problem) (budget : ℕ) (round : Round) (first order : List ℕ) (room : ℕ) where
-  pub refused_17 : (f : Finish) → Finished p budget round first order f → has_room p room f ≡ false
+module _ (p : Problem) (budget : ℕ) (round : Round) (last : Held) (room : ℕ) where
+  pub refused_17 : (f : Finish) → Finished p budget round last f → has_room p room f ≡ false
       → (unwritten (Refused 17) ≡ trail_case p room (answer p budget)) × (stored_at p room f ≡ [])
   unfolding first_no
-  refused_17 (Ended kind places h s read) (A, sixteen) short = (rw (A.is, short), rw short)
+  refused_17 (Ended kind places h s read) A short = (rw (A.is, short), rw short)
   refused_17 (FinishUnknown places position) is short = absurd_bool short
   refused_17 FinishSpent is short = absurd_bool short
 
-  pub announced-end : (old new : List ℕ) (bytes : ℕ) (f : Finish) → Finished p budget round first order f
+  pub announced-end : (old new : List ℕ) (bytes : ℕ) (f : Finish) → Finished p budget round last f
       → Recorded p false budget old new bytes f → has_room p room f ≡ true
       → (run : RunAnswer) → run ≡ case_of (answer p budget)
       → (◌≡◌ {A = TrailAnswer} (record { run = run; bytes = bytes }) (trail_case p room (answer p budget)))
       × (numbers_of (answer p budget) ≡ cond (announces run) (numbers_of (answer p budget)) [])
       × (stored_at p room f ≡ cond (announces run) (whole_trail p) [])
   unfolding first_no
-  announced-end old new bytes (Ended kind places h s read) (A, sixteen) R fits run e =
+  announced-end old new bytes (Ended kind places h s read) A R fits run e =
       (rw (e, A.is, R.0, fits), rw (e, A.is), rw (e, A.is, fits))
   announced-end old new bytes (FinishUnknown places position) is R fits run e =
       (rw (e, is, R.0), rw (e, is), rw (e, is))
   announced-end old new bytes FinishSpent is R fits run e = (rw (e, is, R.0), rw (e, is), rw (e, is))
 
   -- it has counted, and stored nothing
-  pub counts : (old new : List ℕ) (bytes : ℕ) (f : Finish) → Finished p budget round first order f
+  pub counts : (old new : List ℕ) (bytes : ℕ) (f : Finish) → Finished p budget round last f
       → Recorded p false budget old new bytes f → (kind : Kind) (places h : ℕ) (s : Status) (read : ℕ)
       → f ≡ Ended kind places h s read → HasEnd p budget × (bytes ≡ length (whole_trail p))
   counts old new bytes f F R kind places h s read is =
-      let A = subst (Finished p budget round first order) is F in
-      let B = subst (Recorded p false budget old new bytes) is R in ((_, _, _, _, _, _, A.0.is), B.0)
+      let A = subst (Finished p budget round last) is F in
+      let B = subst (Recorded p false budget old new bytes) is R in ((_, _, _, _, _, _, A.is), B.0)
 
 pub stores_nothing : (p : Problem) (budget : ℕ) (old new : List ℕ) (bytes : ℕ) (f : Finish)
     → Recorded p false budget old new bytes f → new ≡ old

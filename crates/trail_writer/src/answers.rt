@@ -1,6 +1,5 @@
 // The run that writes a trail: the customer's call.
 ghost use Rattle.std.specs.Prelude.{cond, true, [], ◌≡◌, length};
-ghost use Rattle.arrays.specs.Rounds.{round_of};
 ghost use Rattle.combinatorics.specs.Front.{front};
 ghost use Rattle.finder.specs.Asked.{CanRun};
 ghost use Rattle.finder.specs.Run.{numbers_of};
@@ -12,11 +11,13 @@ ghost use Rattle.trail_writer.specs.Again.{CanWriteTrail, HasCounted, has_room, 
 ghost use Rattle.trail_writer.specs.Writing.{announces, trail_answer_buffer, trail_answer, trail_buffer};
 ghost use Rattle.trail_writer.specs.Writing.{trail_case, unwritten, whole_trail};
 
-use arrays::{block_sizes, padded};
+use arrays::round_of;
 use finder::{RunAnswer, announce, first_run_no};
 use grid::Grid;
+use moves::Held;
 use path_pass::Finish;
 use positions::ENTRIES;
+use rules::Round;
 use trail_pass::pass_recording;
 
 // What the run answers, which is refused by 17 too: the trail buffer is shorter than the trail; and how many bytes of
@@ -33,22 +34,16 @@ fn write_trail(
     binomials: &[u16; ENTRIES],
     start: &[u16],
     labels: &[u8],
-    previous: &[u8; 16],
-    next: &[u8; 16],
-    sizes: &[u8; 16],
+    round: &Round,
     trail: &mut [u8],
     budget: u64,
 )
-    requires { let w = round_of previous.now next.now sizes.now in
-        CanWriteTrail g w binomials.now start.now labels.now (length trail.old) budget }
+    requires { CanWriteTrail g round.now binomials.now start.now labels.now (length trail.old) budget }
     ensures { trail.new ≡ front (whole_trail (problem_from g start.now labels.now))
         trail.old }
 {
-    let mut first = padded(start, g.indices);
-    let mut order = [0u32; 16];
-    pass_recording(
-        g, binomials, labels, previous, next, sizes, &mut first, &mut order, trail, true, budget,
-    );
+    let mut held = Held::at(start, g.indices);
+    pass_recording(g, binomials, labels, round, &mut held, trail, true, budget);
 }
 
 // 17, which is put where the first pass came to an end, and then the second pass: whether the trail has room. A run
@@ -58,16 +53,13 @@ fn stored(
     binomials: &[u16; ENTRIES],
     start: &[u16],
     labels: &[u8],
-    previous: &[u8; 16],
-    next: &[u8; 16],
-    sizes: &[u8; 16],
+    round: &Round,
     trail: &mut [u8],
     budget: u64,
     finish: Finish,
     bytes: usize,
 ) -> bool
-    requires { let w = round_of previous.now next.now sizes.now in
-        HasCounted g w binomials.now start.now labels.now budget bytes finish }
+    requires { HasCounted g round.now binomials.now start.now labels.now budget bytes finish }
     ensures value { result ≡ has_room (problem_from g start.now labels.now)
         (length trail.old) finish }
     ensures trail_after { trail.new ≡ front (stored_at (problem_from g start.now labels.now)
@@ -79,9 +71,7 @@ fn stored(
             if trail.len() < bytes {
                 return false;
             }
-            write_trail(
-                g, binomials, start, labels, previous, next, sizes, trail, budget,
-            );
+            write_trail(g, binomials, start, labels, round, trail, budget);
             true
         }
     }
@@ -117,30 +107,17 @@ fn announced(
     ensures trail_after { trail.new ≡ front (cond (announces result.run)
         (whole_trail (problem_from g start.now labels.now)) []) trail.old }
 {
-    let sizes = block_sizes(g);
-    let mut first = padded(start, g.indices);
-    let mut order = [0u32; 16];
+    let round = round_of(g);
+    let mut held = Held::at(start, g.indices);
     let passed = pass_recording(
-        g,
-        binomials,
-        labels,
-        &g.previous,
-        &g.next,
-        &sizes,
-        &mut first,
-        &mut order,
-        trail,
-        false,
-        budget,
+        g, binomials, labels, &round, &mut held, trail, false, budget,
     );
     let has_room = stored(
         g,
         binomials,
         start,
         labels,
-        &g.previous,
-        &g.next,
-        &sizes,
+        &round,
         trail,
         budget,
         passed.finish,
@@ -149,16 +126,7 @@ fn announced(
     if !has_room {
         return refused(17);
     }
-    let run = announce(
-        g,
-        &g.previous,
-        &sizes,
-        &first,
-        &order,
-        passed.finish,
-        answer,
-        budget,
-    );
+    let run = announce(g, &round, &held, passed.finish, answer, budget);
     TrailAnswer {
         run,
         bytes: passed.bytes,

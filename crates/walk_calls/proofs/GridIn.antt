@@ -3,11 +3,10 @@ use mathlib.Core.Bool.{cond}
 use mathlib.Core.List.{[]}
 use mathlib.Core.Logic.{⊎_elim}
 use mathlib.Core.Path.{◌≡◌, sym, ap, ◌∙◌}
-use Prim.Native.Nat.{ℕ, ◌≤◌, ◌<◌}
+use Prim.Native.Nat.{ℕ, ◌<◌}
 use borrow.Author.Tests.{leb-true, leb-false}
 use lib.Dec.{leb}
 use lib.ListN.{take}
-use native.Mathlib.Omega.{arith}
 use Rattle.combinatorics.proofs.Basics.{true_or_false}
 use Rattle.grid.proofs.Fields.{made_code, made-is, made-shape}
 use Rattle.grid_points.specs.Grid.{Grid, lent}
@@ -19,10 +18,6 @@ use Rattle.walk_calls.specs.Moving.{GridIn}
 use Rattle.walk_calls.proofs.Calls.{none-refused, six-blocks, too_many_blocks}
 use Rattle.walk_places.specs.Walks.{walk_grid}
 use Rattle.walk_places.specs.declared.Walk.{Walk as WalkStruct}
-
-pub few-blocks : (b n : ℕ) → n ≡ cond (leb b 6) b 0 → n ≤ 6
-few-blocks b n e = ⊎_elim (λ t. let z : n ≡ b = e ∙ (rw t) in
-    omega (arith, leb-true b 6 t)) (λ f. let z : n ≡ 0 = e ∙ (rw f) in omega arith) (true_or_false (leb b 6))
 
 module _ (w : WalkStruct) (n : ℕ) (is : n ≡ cond (leb w.blocks 6) w.blocks 0) (r : Made) (made : r ≡ made_of (lent
     (take n w.sizes) (take n w.divisions))) where

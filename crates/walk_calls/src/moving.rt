@@ -31,6 +31,7 @@ fn moved_to(w: Walk, place: Place, on: Carried) -> Walk
     requires { (w.places < 18446744073709551615) × (w.labels_read < 18446744073709551615) }
     ensures { result ≡ walk_moved_to w place on }
 {
+    // A variable, since the checker covers no literal that takes an array out of another struct's field.
     let carried = on.labels;
     Walk {
         places: w.places + 1,

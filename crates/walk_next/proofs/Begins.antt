@@ -1,18 +1,16 @@
 -- The first tests of a call: the places so far, and how the present place is kept. Assumes nothing.
-use mathlib.Core.Bool.{Bool, true, false, ◌&&◌}
+use mathlib.Core.Bool.{true, false, ◌&&◌}
 use mathlib.Core.List.{List}
 use mathlib.Core.Logic.{inl, inr, ⊎_elim}
-use mathlib.Core.Path.{◌≡◌, refl, sym, ◌∙◌}
-use Prim.Native.Nat.{ℕ, pred, ◌+◌, ◌≤◌, ◌<◌}
-use borrow.Author.Tests.{eq-eqb, le-leb, leb-true, ne_eqb}
+use mathlib.Core.Path.{◌≡◌, sym, ◌∙◌}
+use Prim.Native.Nat.{ℕ, pred, ◌≤◌, ◌<◌}
+use borrow.Author.Tests.{le-leb, leb-true}
 use lib.Dec.{leb}
-use lib.ListN.{length, set, length-set}
-use lib.Seq.{get_or-set_other, get_or-set_same}
 use native.Mathlib.Omega.{arith}
-use Rattle.combinatorics.proofs.Basics.{absurd_bool, and_both, and_left, and_right, before_or_not, false_of, same_or}
+use Rattle.combinatorics.proofs.Basics.{absurd_bool, and_both, and_left, and_right, before_or_not, false_of}
 use Rattle.combinatorics.proofs.Basics.{true_or_false}
 use Rattle.grid.proofs.Fields.{made-indices}
-use Rattle.grid_points.specs.Grid.{at, bound}
+use Rattle.grid_points.specs.Grid.{bound}
 use Rattle.grid.specs.Made.{IsMade, shape}
 use Rattle.grid.specs.declared.Grid.{Grid as GridStruct}
 use Rattle.place.specs.Questions.{table_questions}
@@ -24,24 +22,9 @@ use Rattle.walks.specs.Next.{next_of, refused}
 use Rattle.walk_ways.proofs.ComesNext.{no-count, no_place, no_read}
 use Rattle.walk_places.proofs.Held.{held, held-parts, not_held}
 use Rattle.walk_next.specs.Standing.{counts_in_range, CanStand}
-use Rattle.walk_next.specs.Choosing.{MarksFilledBy}
 use Rattle.walk_places.specs.Walks.{holds_numbers, holds_place, kept_as, same_place, table_on, walk_on}
 use Rattle.walk_places.specs.declared.Place.{Place}
 use Rattle.walk_places.specs.declared.Walk.{Walk as WalkStruct}
-
-pub fill_no : (marks : List ℕ) (point : ℕ) (unknown : Bool) → unknown ≡ false → length marks ≡ 16 →
-    MarksFilledBy marks point unknown marks
-fill_no marks point unknown e l = record { long = l; each = λ j. rw e (omega arith) }
-
-pub fill_yes : (marks : List ℕ) (point : ℕ) (unknown : Bool) → unknown ≡ true → length marks ≡ 16 → point < 16 →
-    MarksFilledBy marks point unknown (set marks point (at marks point + 1))
-fill_yes marks point unknown e l low = record {
-  long = length-set marks point (at marks point + 1) ∙ l;
-  each = λ j. ⊎_elim (λ (q : j ≡ point). rw (e, q, eq-eqb point point refl)
-      (get_or-set_same marks point (at marks point + 1) 0 (omega arith)))
-      (λ (q : j ≡ point → ⊥). rw (e, ne_eqb j point q)
-      (get_or-set_other marks point j (at marks point + 1) 0 q ∙ omega arith)) (same_or j point);
-}
 
 module _ (g : GridStruct) (w : WalkStruct) (labels : List ℕ) (made : IsMade g)
     (asked : first_no (table_questions (table_on g w labels)) ≡ 0) where
@@ -78,11 +61,10 @@ module _ (g : GridStruct) (w : WalkStruct) (labels : List ℕ) (made : IsMade g)
       (false_of _ (λ h. no-empty (table_on g w labels) ok.has_start.some_block
       (rw (not_held (shape g) w.present f) at h)))
 
-  pub kept_rightly : holds_numbers g.indices w.present ≡ true → length w.present.first ≡ 16 → length
-      w.present.order ≡ 16
-      → counts_in_range (shape g) w.places w.labels_read ≡ true → (n : ℕ) → n ≡ pred w.present.count →
-      CanStand g w labels w.present.first w.present.order n
-  kept_rightly t fl ol range n is =
+  pub kept_rightly : holds_numbers g.indices w.present ≡ true
+      → counts_in_range (shape g) w.places w.labels_read ≡ true → (n : ℕ) → n ≡ pred w.present.count
+      → CanStand g w labels n
+  kept_rightly t range n is =
       let h : holds_place (shape g) w.present ≡ true = rw (← (made-indices g made)) t in
       let k = held-parts (shape g) w.present h in
       let a = leb 1 w.places in let b = leb w.places (bound (shape g)) in let c = leb 1 w.labels_read in
@@ -92,8 +74,6 @@ module _ (g : GridStruct) (w : WalkStruct) (labels : List ℕ) (made : IsMade g)
         made = made;
         asked = asked;
         few = omega (arith, is, k.0, k.1);
-        first_long = fl;
-        order_long = ol;
         present = held (shape g) w.present h ∙ rw (is, made-indices g made);
         count = omega (arith, is, k.0);
         some = leb-true 1 _ (and_left a b ab);

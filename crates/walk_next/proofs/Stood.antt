@@ -3,7 +3,7 @@
 use mathlib.Core.Bool.{true, false, ◌&&◌, cond}
 use mathlib.Core.List.{List, [], ◌∷◌, map}
 use mathlib.Core.Logic.{⊎_elim}
-use mathlib.Core.Path.{◌≡◌, refl, sym, ap, ◌∙◌}
+use mathlib.Core.Path.{◌≡◌, refl, sym, ap, ◌∙◌, subst}
 use Prim.Native.Nat.{ℕ, zero, suc, ◌+◌, ◌≤◌, ◌<◌}
 use borrow.Author.Tests.{eqb-true, ltb-true}
 use lib.Dec.{eqb, ltb}
@@ -15,11 +15,13 @@ use Rattle.combinatorics.proofs.Basics.{true_or_false}
 use Rattle.combinatorics.proofs.Lists.{all_in, eqb_self, in_all, on_numbers, same_self, same_sound}
 use Rattle.combinatorics.specs.Lists.{is_in, same}
 use Rattle.combinatorics.specs.Front.{padded}
-use Rattle.grid.proofs.Fields.{following_low, made-accepted, made-indices, made-next, made-previous, previous-low}
+use Rattle.grid.proofs.Fields.{made-accepted}
 use Rattle.grid_points.proofs.Points.{on_points}
-use Rattle.grid_points.specs.Grid.{Point, at, block_of, is_grid_point, num_indices, position, size}
-use Rattle.grid.specs.Made.{IsMade, shape}
+use Rattle.grid_points.specs.Grid.{Point, is_grid_point, num_indices, position}
+use Rattle.grid.specs.Made.{shape}
 use Rattle.grid.specs.declared.Grid.{Grid as GridStruct}
+use Rattle.moves.specs.declared.holding.Held.{Held}
+use Rattle.moves.specs.declared.Status.{Status}
 use Rattle.place.specs.Places.{Simplex, is_place, label_set, within}
 use Rattle.place.specs.Problem.{Problem, label}
 use Rattle.path_laws.proofs.Accepted.{accepted_of, accepted-table}
@@ -49,65 +51,52 @@ use Rattle.walk_places.specs.Placing.{CanSee}
 use Rattle.walk_places.proofs.Held.{padded_taken}
 use Rattle.walk_next.specs.Spares.{LabelsLow, NotNew, SparesOf, again as seen_again, label_at}
 use Rattle.walk_next.specs.Spares.{outside as seen_outside, unknown as unseen}
-use Rattle.walk_ways.specs.Standing.{IsRoundOf, points_kept}
+use Rattle.walk_ways.specs.Standing.{Standing, points_kept}
 use Rattle.walk_places.specs.Walks.{carried_of, place_of, table_on, walk_on}
 use Rattle.walk_next.specs.declared.Spared.{Spared}
 use Rattle.walk_places.specs.declared.Walk.{Walk as WalkStruct}
 
--- the ways round the blocks
-pub round_of_lem : (g : GridStruct) → IsMade g → (sizes : List ℕ) →
-    ((h : ℕ) → h < g.indices → at sizes h ≡ size (shape g) (block_of (shape g) h))
-    → IsRoundOf g g.previous g.next sizes
-round_of_lem g made sizes s = record {
-  round = record {
-    backward = λ h l. made-previous g made h (omega (arith, made-indices g made));
-    forward = λ h l. made-next g made h (omega (arith, made-indices g made));
-    size = λ h l. s h (omega (arith, made-indices g made));
-  };
-  below = record { backward = λ h l. previous-low g made h; forward = λ h l. following_low g made h };
-}
+module _ {g : GridStruct} {w : WalkStruct} {labels : List ℕ} {n : ℕ} (C : CanSee g w labels n) where
+  abbrev p : Problem
+  p = table_on g w labels
 
-module _ {g : GridStruct} {w : WalkStruct} {labels first order : List ℕ} {n : ℕ} (C : CanSee g w labels first order n)
-  where
-    abbrev p : Problem
-    p = table_on g w labels
+  pub ok : Accepted p
+  ok = accepted_of p C.asked
 
+  module _ (held : Held) where
     abbrev y : Point
-    y = take g.indices first
+    y = take g.indices held.first
 
     abbrev o : List ℕ
-    o = take n order
+    o = take n held.order
 
     abbrev s : Simplex
     s = kept_points (shape g) y o
 
-    pub ok : Accepted p
-    ok = accepted_of p C.asked
-
     long-o : length o ≡ n
-    long-o = length-take n order ∙ omega (arith, C.order_long, C.few)
+    long-o = length-take n held.order ∙ omega (arith, held.order_long, C.few)
 
     pub not_kept_place : is_kept p y o ≡ false → is_place p s ≡ false
     not_kept_place f = recognised ok.has_start y o ∙ (rw f)
 
-    module _ {list marks : List ℕ} {t u : ℕ} (S : Seen p (mark_of p) y o list marks t u) where
+    module _ {t u : ℕ} (S : Seen p (mark_of p) y o held t u) where
       -- the points are on the grid, and their labels stand in the marks
       on-grid : (j : ℕ) → j ≤ n → is_grid_point (shape g) (get_or s j []) ≡ true
-      on-grid j l = kept-on-grid C S.kept j l
+      on-grid j l = kept-on-grid C held S.kept j l
 
       label-few : (j : ℕ) → j ≤ n → label p (get_or s j []) ≤ 16
       label-few j l =
           omega (arith, label-within (accepted-table ok) (get_or s j []) (on-grid j l), ok.has_start.sixteen_indices)
 
-      pub label_is : (j : ℕ) → j ≤ n → label_at marks j ≡ label p (get_or s j [])
-      label_is j l = ap mark_label (S.marked j (omega (arith, long-o))) ∙ label_in_lem (position (shape g) (get_or s j []))
-          (label p (get_or s j [])) (omega (arith, label-few j l))
+      pub label_is : (j : ℕ) → j ≤ n → label_at held.marks j ≡ label p (get_or s j [])
+      label_is j l = ap mark_label (S.marked j (omega (arith, long-o)))
+          ∙ label_in_lem (position (shape g) (get_or s j [])) (label p (get_or s j [])) (omega (arith, label-few j l))
 
-      pub labels-low : LabelsLow marks n
+      pub labels-low : LabelsLow held.marks n
       labels-low j l = omega (arith, label_is j l, label-few j l)
 
       -- T is among the labels exactly if all of it is seen
-      module _ {r : Spared} (P : SparesOf marks n t r) where
+      module _ {r : Spared} (P : SparesOf held.marks n t r) where
         seen_in : (k : ℕ) → k < 16 → bit r.seen k ≡ true → is_in eqb k (label_set p s) ≡ true
         seen_in k l b =
             let v = P.known k l b in
@@ -134,7 +123,8 @@ module _ {g : GridStruct} {w : WalkStruct} {labels first order : List ℕ} {n : 
 
         pub all_seen : r.seen ≡ t → is_place p s ≡ true
         all_seen e = recognised ok.has_start y o ∙ and_both _ _ S.kept
-            (in_all on_numbers _ o (λ k m. seen_in k (below k m) (ap (λ (x : ℕ). bit x k) e ∙ S.in_t k (below k m) ∙ m)))
+            (in_all on_numbers _ o (λ k m.
+            seen_in k (below k m) (ap (λ (x : ℕ). bit x k) e ∙ S.in_t k (below k m) ∙ m)))
 
         pub not_all_place : r.seen < 65536 → t < 65536 → (r.seen ≡ t → ⊥) → is_place p s ≡ false
         not_all_place ls lt ne = false_of _ (λ h. ne (same_mask r.seen t ls lt
@@ -148,7 +138,7 @@ module _ {g : GridStruct} {w : WalkStruct} {labels first order : List ℕ} {n : 
 
         -- the spare point
         module _ (place : is_place p s ≡ true) where
-          not_new : (j : ℕ) × (j ≤ n) × NotNew marks t j
+          not_new : (j : ℕ) × (j ≤ n) × NotNew held.marks t j
           not_new =
               let v = some-spare ok y o place in
               let jl : v.0 ≤ n = omega (arith, v.1, long-o) in (
@@ -160,40 +150,43 @@ module _ {g : GridStruct} {w : WalkStruct} {labels first order : List ℕ} {n : 
                     (λ x. seen_again x.0 x.1 (label_is x.0 (omega (arith, x.1)) ∙ x.2 ∙ sym (label_is v.0 jl))) z) v.2,
               )
 
-          found : (r.point ≤ n) × NotNew marks t r.point
+          found : (r.point ≤ n) × NotNew held.marks t r.point
           found = let v = not_new in let f = P.spare v.0 (omega (arith, v.1)) v.2 in (omega (arith, f.0), f.1)
 
           spare_of : Spare p s o r.point
           spare_of = go found.1
             where
-              go : NotNew marks t r.point → Spare p s o r.point
+              go : NotNew held.marks t r.point → Spare p s o r.point
               go (unseen z) = unknown (sym (label_is r.point found.0) ∙ z)
               go (seen_outside h z b) = let e = sym (label_is r.point found.0) ∙ z in
                   outside h e (sym (S.in_t h (omega (arith, e, label-few r.point found.0))) ∙ b)
               go (seen_again j l z) = again j (omega (arith, l, found.0, long-o)) (λ e. omega (arith, l, e))
                   (sym (label_is j (omega (arith, l, found.0))) ∙ z ∙ label_is r.point found.0)
 
-          pub can-choose : CanStand g w labels first order n → carried_of w ≡ labels_of p (place_of (shape g) w.present)
-              → CanChoose g w labels first list order marks n t u r.point
-          can-choose D carried = record {
+          abbrev pub here : Status
+          here = record { rule = 1; count = n; t = t; u = u; active = r.point }
+
+          pub can-choose : CanStand g w labels n → place_of (shape g) w.present ≡ s
+              → carried_of w ≡ labels_of p (place_of (shape g) w.present)
+              → CanChoose g w labels held here
+          can-choose D present carried = record {
             low = omega (arith, found.0, C.few);
             long = S.marks_long;
             room = omega (
               arith,
               S.marked r.point (omega (arith, found.0, long-o)),
               label-few r.point found.0,
-              kept-position C S.kept r.point found.0,
+              kept-position C held S.kept r.point found.0,
               (made-accepted g C.made).few_points,
             );
-            stands = λ own un e F. record {
+            stands = λ own un e F. subst (λ (h : Held). Standing g w labels h here un) (sym F.same) (record {
               made = C.made;
               asked = C.asked;
+              came_in = omega arith;
               few = C.few;
-              first_long = C.first_long;
               list_long = S.list_long;
-              order_long = C.order_long;
               marks_long = F.long;
-              present = D.present;
+              present = present;
               place = place;
               in_t = S.in_t;
               in_u = S.in_u;
@@ -210,47 +203,43 @@ module _ {g : GridStruct} {w : WalkStruct} {labels first order : List ℕ} {n : 
                 read = D.read;
                 read_few = D.read_few;
               };
-            };
+            });
           }
 
 -- a walk whose present place is no place is refused
-module _ {g : GridStruct} {w : WalkStruct} {labels first order : List ℕ} {n : ℕ} (D : CanStand g w labels first order n)
-  where
-    pub can_see : CanSee g w labels first order n
-    can_see = record {
-      made = D.made;
-      asked = D.asked;
-      few = D.few;
-      first_long = D.first_long;
-      order_long =
-          D.order_long;
-    }
+module _ {g : GridStruct} {w : WalkStruct} {labels : List ℕ} {n : ℕ} (D : CanStand g w labels n) where
+  pub can_see : CanSee g w labels n
+  can_see = record { made = D.made; asked = D.asked; few = D.few }
 
-    pub no-place-there : is_place (table_on g w labels) (points_kept g first order n) ≡ false → next_of (walk_on (shape g) w)
-        labels ≡ refused 20
-    no-place-there f = no_place (walk_on (shape g) w) labels (ok can_see) (rw D.present f)
+  module _ (held : Held) (there-first : held.first ≡ w.present.first) (there-order : held.order ≡ w.present.order) where
+    abbrev there : Simplex
+    there = points_kept g held.first held.order n
+
+    pub present : place_of (shape g) w.present ≡ there
+    present = rw (there-first, there-order) D.present
+
+    pub no-place-there : is_place (table_on g w labels) there ≡ false
+        → next_of (walk_on (shape g) w) labels ≡ refused 20
+    no-place-there f = no_place (walk_on (shape g) w) labels (ok can_see) (rw present f)
 
     -- the labels that are carried, beside those in the marks
-    module _ {list marks : List ℕ} {t u : ℕ} (S : Seen (table_on g w labels) (mark_of (table_on g w labels))
-        (take g.indices first) (take n order) list marks t u) where
-      abbrev there : Simplex
-      there = points_kept g first order n
-
+    module _ {t u : ℕ} (S : Seen (table_on g w labels) (mark_of (table_on g w labels))
+        (take g.indices held.first) (take n held.order) held t u) where
       there-long : length there ≡ suc n
-      there-long = points-long (ok can_see).has_start (take g.indices first) (take n order)
-          (conditions_of (table_on g w labels) (take g.indices first) (take n order) S.kept)
-          ∙ ap suc (length-take n order ∙ omega (arith, D.order_long, D.few))
+      there-long = points-long (ok can_see).has_start (take g.indices held.first) (take n held.order)
+          (conditions_of (table_on g w labels) (take g.indices held.first) (take n held.order) S.kept)
+          ∙ ap suc (length-take n held.order ∙ omega (arith, held.order_long, D.few))
 
-      in_marks_lem : map mark_label (take (suc n) marks) ≡ labels_of (table_on g w labels) there
+      in_marks_lem : map mark_label (take (suc n) held.marks) ≡ labels_of (table_on g w labels) there
       in_marks_lem =
-          let l = length-take-le (suc n) marks (omega (arith, S.marks_long, D.few)) in
-          let m = length-map (take (suc n) marks) mark_label ∙ l in
-          ext_get_or 0 (map mark_label (take (suc n) marks)) (labels_of (table_on g w labels) there)
+          let l = length-take-le (suc n) held.marks (omega (arith, S.marks_long, D.few)) in
+          let m = length-map (take (suc n) held.marks) mark_label ∙ l in
+          ext_get_or 0 (map mark_label (take (suc n) held.marks)) (labels_of (table_on g w labels) there)
           (m ∙ sym (length-map there (label (table_on g w labels)) ∙ there-long)) (λ j h.
           let jl : j ≤ n = omega (arith, m) in
-          labels_in (take (suc n) marks) j (omega (arith, l)) ∙ ap mark_label (get_or-take (suc n) marks j 0 (omega arith))
-          ∙
-          label_is can_see S j jl
+          labels_in (take (suc n) held.marks) j (omega (arith, l))
+          ∙ ap mark_label (get_or-take (suc n) held.marks j 0 (omega arith))
+          ∙ label_is can_see held S j jl
           ∙ sym (label-at there j (omega (arith, there-long))))
         where
           label-at : (r : Simplex) (j : ℕ) → j < length r → get_or (labels_of (table_on g w labels) r) j 0 ≡ label
@@ -259,7 +248,7 @@ module _ {g : GridStruct} {w : WalkStruct} {labels first order : List ℕ} {n : 
           label-at (z ∷ r) zero l = refl
           label-at (z ∷ r) (suc j) l = label-at r j (omega arith)
 
-      pub carries_own : same eqb w.carried (labels_in_marks marks n) ≡ true → carried_of w
+      pub carries_own : same eqb w.carried (labels_in_marks held.marks n) ≡ true → carried_of w
           ≡ labels_of (table_on g w labels)
           (place_of (shape g) w.present)
       unfolding carried_of
@@ -270,18 +259,18 @@ module _ {g : GridStruct} {w : WalkStruct} {labels first order : List ℕ} {n : 
           let b : take w.present.count w.carried ≡ labels_of (table_on g w labels) there =
           ap (take w.present.count) a ∙ padded_taken w.present.count (labels_of (table_on g w labels) there)
           (length-map there (label (table_on g w labels)) ∙ there-long ∙ sym D.count) in
-          rw (b, D.present) (rw (← a) (rw (same_self eqb eqb_self w.carried)))
+          rw (b, present) (rw (← a) (rw (same_self eqb eqb_self w.carried)))
 
-      pub carries_others : same eqb w.carried (labels_in_marks marks n) ≡ false → next_of (walk_on (shape g) w) labels
-          ≡ refused 20
+      pub carries_others : same eqb w.carried (labels_in_marks held.marks n) ≡ false
+          → next_of (walk_on (shape g) w) labels ≡ refused 20
       unfolding carried_of
       carries_others f = not_carried (walk_on (shape g) w) labels (ok can_see) (λ e.
           let own : List ℕ = take w.present.count w.carried in
           let z : cond (same eqb w.carried (padded 16 own)) own [] ≡ labels_of (table_on g w labels) there = e ∙ ap
-          (labels_of (table_on g w labels)) D.present in
+          (labels_of (table_on g w labels)) present in
           ⊎_elim (λ t.
           let a : own ≡ labels_of (table_on g w labels) there = rw t at z in
-          let b : w.carried ≡ labels_in_marks marks n = same_sound eqb eqb-true w.carried (padded 16 own) t ∙ ap
+          let b : w.carried ≡ labels_in_marks held.marks n = same_sound eqb eqb-true w.carried (padded 16 own) t ∙ ap
           (padded 16)
           (a ∙ sym in_marks_lem) in
           absurd_bool (sym (same_self eqb eqb_self w.carried) ∙ ap (same eqb w.carried) b ∙ f))

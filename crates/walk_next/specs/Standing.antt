@@ -1,5 +1,5 @@
 -- The counts of a walk in range, and a walk whose present place is kept rightly. Assumes nothing.
-use Rattle.std.specs.Prelude.{Bool, ◌&&◌, List, ◌≡◌, ℕ, suc, ◌≤◌, leb, length}
+use Rattle.std.specs.Prelude.{Bool, ◌&&◌, List, ◌≡◌, ℕ, suc, ◌≤◌, leb}
 use Rattle.grid_points.specs.Grid.{Grid, bound}
 use Rattle.grid.specs.Made.{IsMade, shape}
 use Rattle.grid.specs.declared.Grid.{Grid as GridStruct}
@@ -15,13 +15,11 @@ counts_in_range g places read = (leb 1 places && leb places (bound g)) && (leb 1
 
 -- the walk passes questions 1 to 7, its places so far and its labels read are in range, and its present place is kept
 -- rightly
-pub record CanStand (g : GridStruct) (w : WalkStruct) (labels first order : List ℕ) (n : ℕ) : Type 0 where
+pub record CanStand (g : GridStruct) (w : WalkStruct) (labels : List ℕ) (n : ℕ) : Type 0 where
   pub made : IsMade g
   pub asked : first_no (table_questions (table_on g w labels)) ≡ 0
   pub few : n ≤ 15
-  pub first_long : length first ≡ 16
-  pub order_long : length order ≡ 16
-  pub present : place_of (shape g) w.present ≡ points_kept g first order n
+  pub present : place_of (shape g) w.present ≡ points_kept g w.present.first w.present.order n
   pub count : w.present.count ≡ suc n
   pub some : 1 ≤ w.places
   pub most : w.places ≤ bound (shape g)

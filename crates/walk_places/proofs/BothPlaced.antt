@@ -14,12 +14,13 @@ use Rattle.combinatorics.proofs.Lists.{all_in, in_map, map_in, on_numbers}
 use Rattle.combinatorics.specs.Lists.{all, first_or, is_in}
 use Rattle.combinatorics.specs.Front.{padded}
 use Rattle.grid_points.proofs.Accepted.{accepted as accepted-grid}
-use Rattle.grid.proofs.Fields.{indices-few, made-indices}
+use Rattle.grid.proofs.Fields.{made-indices}
 use Rattle.grid_points.proofs.Points.{on_points}
 use Rattle.grid_points.specs.Grid.{Grid, Point, at, is_grid_point, num_indices, position, same_point}
 use Rattle.grid.specs.Made.{IsMade, shape}
 use Rattle.grid_points.specs.Questions.{grid_questions, question5}
 use Rattle.grid.specs.declared.Grid.{Grid as GridStruct}
+use Rattle.moves.specs.declared.holding.Held.{Held}
 use Rattle.place.specs.Places.{Simplex, is_place, label_set, order, set_t, set_u, within}
 use Rattle.place.specs.Problem.{Problem}
 use Rattle.place.specs.Questions.{question6, question7}
@@ -119,9 +120,6 @@ module _ {g : GridStruct} {w : WalkStruct} {labels : List ℕ} {next : Place} (m
   there-place : is_place p there ≡ true
   there-place = passes.1.joins.to
 
-  m_few : g.indices ≤ 16
-  m_few = indices-few g made
-
   -- the present place is kept
   holds : holds_place (shape g) w.present ≡ true
   holds =
@@ -137,18 +135,11 @@ module _ {g : GridStruct} {w : WalkStruct} {labels : List ℕ} {next : Place} (m
   pub some-present : 1 ≤ w.present.count
   some-present = held_so.0
 
-  take-few : (n : ℕ) (l : List ℕ) → n ≤ 16 → length (take n l) ≤ 16
-  take-few n l h = omega (arith, length-take n l)
-
-  pub place-present : (n : ℕ) → n ≡ pred w.present.count → CanPlace g w w.present.first w.present.order n
+  pub place-present : (n : ℕ) → n ≡ pred w.present.count → CanPlace g w n
   place-present n e = record {
     made = made;
     start = ok.has_start.start;
     few = omega (arith, held_so.0, held_so.1);
-    first_long = ap (λ (b : Place). length b.first) held_so.2 ∙ padded-long _
-        (take-few (num_indices (shape g)) w.present.first (omega (arith, made-indices g made, m_few)));
-    order_long = ap (λ (b : Place). length b.order) held_so.2 ∙ padded-long _
-        (take-few (pred w.present.count) w.present.order (omega (arith, held_so.1)));
   }
 
   here-is : (n : ℕ) → n ≡ pred w.present.count → here ≡ kept_points (shape g) (take g.indices w.present.first)
@@ -192,14 +183,8 @@ module _ {g : GridStruct} {w : WalkStruct} {labels : List ℕ} {next : Place} (m
   pub some_next : 1 ≤ next.count
   some_next = omega (arith, next-count)
 
-  pub place-next : (k : ℕ) → k ≡ pred next.count → CanPlace g w next.first next.order k
-  place-next k e = record {
-    made = made;
-    start = ok.has_start.start;
-    few = omega (arith, next-count, o-few);
-    first_long = ap length next-first ∙ padded-long y (omega (arith, y_long, made-indices g made, m_few));
-    order_long = ap length next-order ∙ padded-long o (omega (arith, o-few));
-  }
+  pub place-next : (k : ℕ) → k ≡ pred next.count → CanPlace g w k
+  place-next k e = record { made = made; start = ok.has_start.start; few = omega (arith, next-count, o-few) }
 
   first_taken : take g.indices next.first ≡ y
   first_taken = ap (take g.indices) next-first ∙ padded_taken g.indices y (y_long ∙ sym (made-indices g made))
@@ -207,76 +192,90 @@ module _ {g : GridStruct} {w : WalkStruct} {labels : List ℕ} {next : Place} (m
   order_taken : (k : ℕ) → k ≡ pred next.count → take k next.order ≡ o
   order_taken k e = ap (take k) next-order ∙ padded_taken k o (omega (arith, next-count))
 
+  -- the present place is held
+  module _ (n : ℕ) (is-n : n ≡ pred w.present.count) (a : Held)
+      (is-here : (a.first ≡ w.present.first) × (a.order ≡ w.present.order)) where
+    abbrev z : Point
+    z = take g.indices a.first
+
+    abbrev r : List ℕ
+    r = take n a.order
+
+    abbrev from : Simplex
+    from = kept_points (shape g) z r
+
+    from-is : from ≡ here
+    from-is = ap (λ (first : List ℕ). kept_points (shape g) (take g.indices first) r) is-here.0
+        ∙ ap (λ (order : List ℕ). kept_points (shape g) (take g.indices w.present.first) (take n order)) is-here.1
+        ∙ sym (here-is n is-n)
+
+    here-kept : is_place p from ≡ true
+    here-kept = subst (λ (s : Simplex). is_place p s ≡ true) (sym from-is) here_place
+
+    pub present-kept : is_kept p z r ≡ false → ⊥
+    present-kept = place-kept p ok z r here-kept
+
+    r_long : length r ≡ n
+    r_long = length-take n a.order ∙ omega (arith, a.order_long, (place-present n is-n).few)
+
+    from-long : length from ≡ suc n
+    from-long = place-long ok.has_start from here-kept ∙ ap (λ (x : List ℕ). suc (length x)) (order_is p z r here-kept)
+        ∙ ap suc r_long
+
+  -- and so is the next
+  module _ (k : ℕ) (is-k : k ≡ pred next.count) (b : Held)
+      (is-there : (b.first ≡ next.first) × (b.order ≡ next.order)) where
+    z_is : take g.indices b.first ≡ y
+    z_is = ap (take g.indices) is-there.0 ∙ first_taken
+
+    r_is : take k b.order ≡ o
+    r_is = ap (take k) is-there.1 ∙ order_taken k is-k
+
+    pub next-kept : is_kept p (take g.indices b.first) (take k b.order) ≡ false → ⊥
+    next-kept f = place-kept p ok y o there-kept (rw (z_is, r_is) at f)
+
   -- what is told of both
-  module _ (n k : ℕ) (is-n : n ≡ pred w.present.count) (is-k : k ≡ pred next.count)
-    where
-      abbrev z : Point
-      z = take g.indices w.present.first
-
-      abbrev r : List ℕ
-      r = take n w.present.order
-
-      here-kept : is_place p (kept_points (shape g) z r) ≡ true
-      here-kept = subst (λ (s : Simplex). is_place p s ≡ true) (here-is n is-n) here_place
-
-      pub present-kept : is_kept p z r ≡ false → ⊥
-      present-kept = place-kept p ok z r here-kept
-
-      pub next-kept : is_kept p (take g.indices next.first) (take k next.order) ≡ false → ⊥
-      next-kept f = place-kept p ok y o there-kept (rw (first_taken, order_taken k is-k) at f)
-
-      abbrev from : Simplex
-      from = kept_points (shape g) z r
-
-      r_long : length r ≡ n
-      r_long = length-take n w.present.order ∙ omega
-          (arith, (place-present n is-n).order_long, (place-present n is-n).few)
-
-      from-long : length from ≡ suc n
-      from-long = place-long ok.has_start from here-kept ∙ ap (λ (x : List ℕ). suc (length x)) (order_is p z r here-kept)
-          ∙
-          ap suc r_long
-
-      k_is : k ≡ length o
-      k_is = omega (arith, next-count)
-
-      module _ {list marks list2 marks2 : List ℕ} {a b : Sets}
-          (S : Seen p (bare_mark (shape g)) z r list marks a.t a.u)
-          (next_seen : Seen p (bare_mark (shape g)) (take g.indices next.first) (take k next.order) list2 marks2 b.t b.u)
-        where
-          R : Seen p (bare_mark (shape g)) y o list2 marks2 b.t b.u
-          R = rw (first_taken, order_taken k is-k) at next_seen
-
-          pub both_marked : BothMarked p here there (record {
-            from = marks;
-            n = n;
-            t = a.t;
-            u = a.u;
-            onto = marks2;
-            k = k;
-            t2 = b.t;
-            u2 = b.u;
-          })
-          both_marked = record {
-            few = (place-present n is-n).few;
-            from_long = S.marks_long;
-            from = marks-are (bare_mark (shape g)) from n marks from-long
-                (omega (arith, S.marks_long, (place-present n is-n).few)) (λ j l. S.marked j (omega (arith, r_long)))
-                ∙ ap (map (bare_mark (shape g))) (sym (here-is n is-n));
-            in_t = λ k l. S.in_t k l ∙ T-is p z r here-kept k ∙ ap (λ (s : Simplex). is_in eqb k (set_t p s))
-                (sym (here-is n is-n));
-            in_u = λ k l. S.in_u k l ∙ U-is p z r here-kept k ∙ ap (λ (s : Simplex). is_in eqb k (set_u (shape g) s))
-                (sym (here-is n is-n));
-            few_next = (place-next k is-k).few;
-            onto_long = R.marks_long;
-            onto = marks-are (bare_mark (shape g)) (kept_points (shape g) y o) k marks2
-                (ap length there-is ∙ there-long ∙ ap suc (sym k_is)) (omega (arith, R.marks_long, k_is, o-few))
-                (λ j l. R.marked j (omega (arith, k_is)))
-                ∙ ap (map (bare_mark (shape g))) there-is;
-            next_t = λ k l. R.in_t k l ∙ T-is p y o there-kept k ∙ ap (λ (s : Simplex). is_in eqb k (set_t p s)) there-is;
-            next_u = λ k l. R.in_u k l ∙ U-is p y o there-kept k ∙ ap (λ (s : Simplex). is_in eqb k (set_u (shape g) s))
-                there-is;
-          }
+  pub both_marked : (n k : ℕ) (is-n : n ≡ pred w.present.count) (is-k : k ≡ pred next.count) (a b : Held)
+      → (a.first ≡ w.present.first) × (a.order ≡ w.present.order) → (b.first ≡ next.first) × (b.order ≡ next.order)
+      → {s s2 : Sets} → Seen p (bare_mark (shape g)) (take g.indices a.first) (take n a.order) a s.t s.u
+      → Seen p (bare_mark (shape g)) (take g.indices b.first) (take k b.order) b s2.t s2.u
+      → BothMarked p here there (record {
+        from = a.marks;
+        n = n;
+        t = s.t;
+        u = s.u;
+        onto = b.marks;
+        k = k;
+        t2 = s2.t;
+        u2 = s2.u;
+      })
+  both_marked n k is-n is-k a b is-here is-there {s} {s2} S next_seen =
+      let R : Seen p (bare_mark (shape g)) y o b s2.t s2.u =
+      rw (z_is k is-k b is-there, r_is k is-k b is-there) at next_seen in
+      let k_is : k ≡ length o = omega (arith, next-count) in
+      let x = z n is-n a is-here in
+      let q = r n is-n a is-here in
+      let kept = here-kept n is-n a is-here in
+      let same = from-is n is-n a is-here in
+      let long = r_long n is-n a is-here in
+      record {
+        few = (place-present n is-n).few;
+        from_long = S.marks_long;
+        from = marks-are (bare_mark (shape g)) (kept_points (shape g) x q) n a.marks (from-long n is-n a is-here)
+            (omega (arith, S.marks_long, (place-present n is-n).few)) (λ j l. S.marked j (omega (arith, long)))
+            ∙ ap (map (bare_mark (shape g))) same;
+        in_t = λ k l. S.in_t k l ∙ T-is p x q kept k ∙ ap (λ (s : Simplex). is_in eqb k (set_t p s)) same;
+        in_u = λ k l. S.in_u k l ∙ U-is p x q kept k ∙ ap (λ (s : Simplex). is_in eqb k (set_u (shape g) s)) same;
+        few_next = (place-next k is-k).few;
+        onto_long = R.marks_long;
+        onto = marks-are (bare_mark (shape g)) (kept_points (shape g) y o) k b.marks
+            (ap length there-is ∙ there-long ∙ ap suc (sym k_is)) (omega (arith, R.marks_long, k_is, o-few))
+            (λ j l. R.marked j (omega (arith, k_is)))
+            ∙ ap (map (bare_mark (shape g))) there-is;
+        next_t = λ k l. R.in_t k l ∙ T-is p y o there-kept k ∙ ap (λ (s : Simplex). is_in eqb k (set_t p s)) there-is;
+        next_u = λ k l. R.in_u k l ∙ U-is p y o there-kept k ∙ ap (λ (s : Simplex). is_in eqb k (set_u (shape g) s))
+            there-is;
+      }
 
   -- the points of both are on the grid
   pub on-here : all (is_grid_point (shape g)) here ≡ true

@@ -16,21 +16,17 @@ use Rattle.walk_places.specs.Walks.{stored, table_on, walk_on}
 use Rattle.walk_places.specs.declared.Place.{Place}
 use Rattle.walk_places.specs.declared.Walk.{Walk as WalkStruct}
 
--- the walk's start is on the grid, and there are 16 numbers each
-pub record CanPlace (g : GridStruct) (w : WalkStruct) (first order : List ℕ) (n : ℕ) : Type 0 where
+-- the walk's start is on the grid
+pub record CanPlace (g : GridStruct) (w : WalkStruct) (n : ℕ) : Type 0 where
   pub made : IsMade g
   pub start : is_grid_point (shape g) (take (num_indices (shape g)) w.start) ≡ true
   pub few : n ≤ 15
-  pub first_long : length first ≡ 16
-  pub order_long : length order ≡ 16
 
--- the walk passes questions 1 to 7, and there are 16 numbers each
-pub record CanSee (g : GridStruct) (w : WalkStruct) (labels first order : List ℕ) (n : ℕ) : Type 0 where
+-- the walk passes questions 1 to 7
+pub record CanSee (g : GridStruct) (w : WalkStruct) (labels : List ℕ) (n : ℕ) : Type 0 where
   pub made : IsMade g
   pub asked : first_no (table_questions (table_on g w labels)) ≡ 0
   pub few : n ≤ 15
-  pub first_long : length first ≡ 16
-  pub order_long : length order ≡ 16
 
 -- a call moves the walk, on this grid, to this place
 pub record GoesTo (g : Grid) (w : WalkStruct) (labels : List ℕ) (next : Place) : Type 0 where

@@ -5,6 +5,7 @@ ghost use Rattle.walk_places.specs.Walks.{holds_numbers, kept_as, nowhere, same_
 
 use crate::Place;
 use arrays::padded;
+use moves::Held;
 
 // The first n numbers of the order, 0 behind them.
 fn cut(order: &[u32; 16], n: usize) -> [u32; 16]
@@ -26,6 +27,20 @@ pub fn kept_as(first: &[u16; 16], m: usize, order: &[u32; 16], n: usize) -> Plac
         first: padded(first, m),
         order: cut(order, n),
         count: n as u8 + 1,
+    }
+}
+
+// What is held of a place that is kept, before its coefficients and marks are found.
+pub fn held_in(p: Place) -> Held
+    ensures { (result.first ≡ p.first) × (result.order ≡ p.order) }
+{
+    let first = p.first;
+    let order = p.order;
+    Held {
+        first,
+        coefficients: [0; 16],
+        order,
+        marks: [0; 16],
     }
 }
 

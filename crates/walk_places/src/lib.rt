@@ -4,7 +4,7 @@
 mod keeping;
 mod placing;
 
-pub use keeping::{is_kept, kept_as, none, same_place};
+pub use keeping::{held_in, is_kept, kept_as, none, same_place};
 pub use placing::{both_placed, seen};
 
 // A place as it is kept: its first point, the indices of T from 0 in the order in which each point goes to the next,

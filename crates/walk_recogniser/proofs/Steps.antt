@@ -24,6 +24,7 @@ use Rattle.grid_points.specs.Grid.{is_grid_point}
 use Rattle.grid_points.specs.Grid.{num_blocks, num_indices, num_points, points as grid_points, position, size}
 use Rattle.grid.specs.Made.{IsMade, shape}
 use Rattle.grid.specs.declared.Grid.{Grid as GridStruct}
+use Rattle.moves.specs.declared.holding.Held.{Held}
 use Rattle.place.specs.Places.{Simplex, first_back_outside}
 use Rattle.positions.proofs.ByTails.{hits, hits_in, hits_out, tail-moved}
 use Rattle.positions.specs.Steps.{after_steps}
@@ -32,7 +33,7 @@ use Rattle.rules.proofs.Shifted.{at_most_one, length-shifted, shifted_at}
 use Rattle.rules.specs.Moves.{shifted}
 use Rattle.walks.proofs.KeptPlace.{at-stepped, length-stepped}
 use Rattle.walks.specs.Kept.{can_step, kept_points, points_by, stepped}
-use Rattle.walk_recogniser.specs.Pieces.{CanMark, OnGrid, bare_mark, point_with, started_on, zero_on}
+use Rattle.walk_recogniser.specs.Pieces.{CanMark, OnGrid, bare_mark, can_go, point_with, started_on, zero_on}
 
 -- a point that is moved within a block stays on the grid
 pub moved_on : (g : Grid) (y z : Point) (h b : ℕ) → length z ≡ num_indices g → is_grid_point g y ≡ true → MovedBy g y z h b
@@ -130,17 +131,17 @@ module _ (g : GridStruct) (made : IsMade g) where
       )))))
 
 -- k steps are made, and the points before have their marks
-pub record Reached (g : GridStruct) (first order : List ℕ) (n : ℕ) (marks steps : List ℕ) (k : ℕ) : Type 0 where
+pub record Reached (g : GridStruct) (held : Held) (n : ℕ) (marks steps : List ℕ) (k : ℕ) : Type 0 where
   pub long : length steps ≡ 16
   pub counts : (i : ℕ) → i < 16 → (16 ≤ at steps i + k) × (at steps i ≤ 16 + k)
-  pub on : OnGrid g first steps
-  pub rest : points_by (shape g) (zero_on g first order n) (point_with g first steps) (drop k (take n order))
-      ≡ drop k (kept_points (shape g) (take g.indices first) (take n order))
-  pub can : can_step (shape g) (zero_on g first order n) (point_with g first steps) (drop k (take n order))
-      ≡ can_step (shape g) (zero_on g first order n) (take g.indices first) (take n order)
+  pub on : OnGrid g held.first steps
+  pub rest : points_by (shape g) (zero_on g held n) (point_with g held.first steps) (drop k (take n held.order))
+      ≡ drop k (kept_points (shape g) (take g.indices held.first) (take n held.order))
+  pub can : can_step (shape g) (zero_on g held n) (point_with g held.first steps) (drop k (take n held.order))
+      ≡ can_go g held n
   pub marks_long : length marks ≡ 16
   pub marked : (j : ℕ) → j < k → at marks j ≡ bare_mark (shape g)
-      (get_or (kept_points (shape g) (take g.indices first) (take n order)) j [])
+      (get_or (kept_points (shape g) (take g.indices held.first) (take n held.order)) j [])
 
 drop-first : (l : Simplex) (k : ℕ) (z : Point) (r : Simplex) → drop k l ≡ z ∷ r → get_or l k [] ≡ z
 drop-first [] zero z r e = absurd_bool (cc)
@@ -154,46 +155,46 @@ drop-next [] (suc k) z r e = absurd_bool (cc)
 drop-next (x ∷ l) zero z r e = cc
 drop-next (x ∷ l) (suc k) z r e = drop-next l k z r e
 
-module _ {g : GridStruct} (made : IsMade g) {first order : List ℕ} {n : ℕ} {from : ℕ → ℕ} {marks₀ : List ℕ}
-    (M : CanMark g from first order n marks₀) where
+module _ {g : GridStruct} (made : IsMade g) {held : Held} {n : ℕ} {from : ℕ → ℕ}
+    (M : CanMark g from held n) where
   abbrev y : Point
-  y = take g.indices first
+  y = take g.indices held.first
 
   abbrev o : List ℕ
-  o = take n order
+  o = take n held.order
 
   abbrev zeros : List ℕ
-  zeros = zero_on g first order n
+  zeros = zero_on g held n
 
   abbrev points : Simplex
   points = kept_points (shape g) y o
 
-  pub reached-none : Reached g first order n marks₀ (replicate 16 16) 0
+  pub reached-none : Reached g held n (replicate 16 0) (replicate 16 16) 0
   reached-none = record {
     long = refl;
     counts = λ i l. let w = get_or-replicate {A = ℕ} 16 i 16 0 l in (omega (arith, w), omega (arith, w));
     on = record {
       can = λ k l. omega (arith, get_or-replicate {A = ℕ} 16 k 16 0 (omega (arith, few g made)));
       point = rw
-          (with_none g made first M.long) M.on_grid;
+          (with_none g made held.first held.first_long) M.on_grid;
     };
-    rest = ap (λ (z : Point). points_by (shape g) zeros z o) (with_none g made first M.long);
-    can = ap (λ (z : Point). can_step (shape g) zeros z o) (with_none g made first M.long);
-    marks_long = M.marks_long;
+    rest = ap (λ (z : Point). points_by (shape g) zeros z o) (with_none g made held.first held.first_long);
+    can = ap (λ (z : Point). can_step (shape g) zeros z o) (with_none g made held.first held.first_long);
+    marks_long = refl;
     marked = λ j l. absurd (omega arith);
   }
 
-  module _ {marks steps : List ℕ} {k : ℕ} (R : Reached g first order n marks steps k) (l : k < n) {h b : ℕ}
-      (is_h : h ≡ at order k) (is_b : b ≡ from h) where
+  module _ {marks steps : List ℕ} {k : ℕ} (R : Reached g held n marks steps k) (l : k < n) {h b : ℕ}
+      (is_h : h ≡ at held.order k) (is_b : b ≡ from h) where
     abbrev z : Point
-    z = point_with g first steps
+    z = point_with g held.first steps
 
     long-o : length o ≡ n
-    long-o = length-take n order ∙ omega (arith, M.order_long, M.few)
+    long-o = length-take n held.order ∙ omega (arith, held.order_long, M.few)
 
     next-o : drop k o ≡ h ∷ drop (suc k) o
     next-o = drop-cons o k 0 (omega (arith, long-o)) ∙ ap (λ (x : ℕ). x ∷ drop (suc k) o)
-        (get_or-take n order k 0 l ∙ sym is_h)
+        (get_or-take n held.order k 0 l ∙ sym is_h)
 
     source : b ≡ first_back_outside (shape g) zeros h
     source = is_b ∙ ap from is_h ∙ M.sources k l ∙ ap (first_back_outside (shape g) zeros) (sym is_h)
@@ -215,46 +216,46 @@ module _ {g : GridStruct} (made : IsMade g) {first order : List ℕ} {n : ℕ} {
     here-can = sym R.can ∙ ap (can_step (shape g) zeros z) next-o
 
     -- where there is nothing to take the steps end
-    pub cannot : at first b + at steps b ≤ 16 → can_step (shape g) zeros y o ≡ false
-    cannot e = here-can ∙ rw (← source, le-ltb 0 (at z b) (omega (arith, with_at g made first steps b low_b)))
+    pub cannot : at held.first b + at steps b ≤ 16 → can_step (shape g) zeros y o ≡ false
+    cannot e = here-can ∙ rw (← source, le-ltb 0 (at z b) (omega (arith, with_at g made held.first steps b low_b)))
 
-    module _ (some : 16 < at first b + at steps b) where
+    module _ (some : 16 < at held.first b + at steps b) where
       pub count_b : 0 < at steps b
       count_b = let w = R.counts b (omega (arith, low_b, few g made)) in omega (arith, w.0, M.few)
 
-      next-point : point_with g first (shifted steps h b) ≡ stepped (shape g) zeros h z
-      next-point = with_step g made zeros first steps h b R.long source low_b count_b R.on
+      next-point : point_with g held.first (shifted steps h b) ≡ stepped (shape g) zeros h z
+      next-point = with_step g made zeros held.first steps h b R.long source low_b count_b R.on
 
-      can-next : (i : ℕ) → i < g.indices → 16 ≤ at first i + at (shifted steps h b) i
+      can-next : (i : ℕ) → i < g.indices → 16 ≤ at held.first i + at (shifted steps h b) i
       can-next i m =
           let w = shifted_at steps h b count_b i (omega (arith, R.long, few g made)) in
           ⊎_elim (λ (e : i ≡ b). let q : one_at b i ≡ 1 = rw (eq-eqb i b e) in
-          omega (arith, w, ap (at first) e, ap (at steps) e))
+          omega (arith, w, ap (at held.first) e, ap (at steps) e))
           (λ (e : i ≡ b → ⊥). let q : one_at b i ≡ 0 = rw (ne_eqb i b e) in omega (arith, w, R.on.can i m))
           (same_or i b)
 
-      moves : MovedBy (shape g) z (point_with g first (shifted steps h b)) h b
+      moves : MovedBy (shape g) z (point_with g held.first (shifted steps h b)) h b
       moves i il =
           let m : i < g.indices = omega (arith, made-indices g made) in
           omega (
             arith,
-            with_at g made first steps i m,
-            with_at g made first (shifted steps h b) i m,
+            with_at g made held.first steps i m,
+            with_at g made held.first (shifted steps h b) i m,
             shifted_at steps h b count_b i (omega (arith, R.long, few g made)),
             R.on.can i m,
             can-next i m,
           )
 
-      next-on : OnGrid g first (shifted steps h b)
+      next-on : OnGrid g held.first (shifted steps h b)
       next-on = record {
         can = can-next;
-        point = moved_on (shape g) z (point_with g first (shifted steps h b)) h b
-            (with_long g made first (shifted steps h b) ∙ made-indices g made) R.on.point moves
+        point = moved_on (shape g) z (point_with g held.first (shifted steps h b)) h b
+            (with_long g made held.first (shifted steps h b) ∙ made-indices g made) R.on.point moves
             (omega (arith, low_h_lem, made-indices g made)) (omega (arith, low_b, made-indices g made))
             (ap (block_of (shape g)) (is_b ∙ ap from is_h) ∙ M.in_block k l ∙ ap (block_of (shape g)) (sym is_h));
       }
 
-      pub reached_more : (r : ℕ) → r ≡ bare_mark (shape g) z → Reached g first order n (set marks k r)
+      pub reached_more : (r : ℕ) → r ≡ bare_mark (shape g) z → Reached g held n (set marks k r)
           (shifted steps h b) (k + 1)
       reached_more r e = record {
         long = length-shifted steps h b ∙ R.long;
@@ -271,7 +272,7 @@ module _ {g : GridStruct} (made : IsMade g) {first order : List ℕ} {n : ℕ} {
             ∙ sym (here-can ∙ (rw (
               ← source,
               lt-ltb 0 (at z b)
-                  (omega (arith, with_at g made first steps b low_b)),
+                  (omega (arith, with_at g made held.first steps b low_b)),
             ))));
         marks_long = length-set marks k r ∙ R.marks_long;
         marked = λ j jl. ⊎_elim (λ (q : j ≡ k). rw q

@@ -3,6 +3,7 @@ use Rattle.std.specs.Prelude.{Bool, Option, Some, None, true, false, not, ◌&&�
 use Rattle.grid_points.specs.Grid.{Grid, Point, at, block_of, is_grid_point, position}
 use Rattle.grid.specs.Made.{shape}
 use Rattle.grid.specs.declared.Grid.{Grid as GridStruct}
+use Rattle.moves.specs.declared.holding.Held.{Held}
 use Rattle.place.specs.Places.{first_back_outside}
 use Rattle.place.specs.Problem.{Problem}
 use Rattle.positions.specs.Steps.{after_steps, CanTakeSteps}
@@ -92,26 +93,33 @@ pub record IsMark (g : GridStruct) (first steps : List ℕ) (r : ℕ) : Type 0 w
   pub is : r ≡ bare_mark (shape g) (point_with g first steps)
 
 -- U, by the first point and the order
-abbrev pub zero_on : GridStruct → List ℕ → List ℕ → ℕ → List ℕ
-zero_on g first order n = zero_outside (shape g) (take n order) (take g.indices first)
+abbrev pub zero_on : GridStruct → Held → ℕ → List ℕ
+zero_on g held n = zero_outside (shape g) (take n held.order) (take g.indices held.first)
 
 -- `from` gives the index that each step of the order takes from
-pub record CanMark (g : GridStruct) (from : ℕ → ℕ) (first order : List ℕ) (n : ℕ) (marks : List ℕ) : Type 0 where
+pub record CanMark (g : GridStruct) (from : ℕ → ℕ) (held : Held) (n : ℕ) : Type 0 where
   pub few : n ≤ 15
-  pub long : length first ≡ 16
-  pub order_long : length order ≡ 16
-  pub marks_long : length marks ≡ 16
-  pub on_grid : is_grid_point (shape g) (take g.indices first) ≡ true
-  pub below : (j : ℕ) → j < n → at order j < g.indices
-  pub sources : (j : ℕ) → j < n → from (at order j) ≡ first_back_outside (shape g) (zero_on g first order n) (at order j)
-  pub in_block : (j : ℕ) → j < n → block_of (shape g) (from (at order j)) ≡ block_of (shape g) (at order j)
-  pub sources_below : (j : ℕ) → j < n → from (at order j) < g.indices
+  pub on_grid : is_grid_point (shape g) (take g.indices held.first) ≡ true
+  pub below : (j : ℕ) → j < n → at held.order j < g.indices
+  pub sources : (j : ℕ) → j < n
+      → from (at held.order j) ≡ first_back_outside (shape g) (zero_on g held n) (at held.order j)
+  pub in_block : (j : ℕ) → j < n → block_of (shape g) (from (at held.order j)) ≡ block_of (shape g) (at held.order j)
+  pub sources_below : (j : ℕ) → j < n → from (at held.order j) < g.indices
 
-pub record Marked (g : GridStruct) (first order : List ℕ) (n : ℕ) (marks : List ℕ) (r : Bool) : Type 0 where
-  pub can : r ≡ can_step (shape g) (zero_on g first order n) (take g.indices first) (take n order)
+-- whether each step of the order has 1 to take
+abbrev pub can_go : GridStruct → Held → ℕ → Bool
+can_go g held n = can_step (shape g) (zero_on g held n) (take g.indices held.first) (take n held.order)
+
+-- each has, and the marks are those of the points
+pub record AreMarks (g : GridStruct) (held : Held) (n : ℕ) (marks : List ℕ) : Type 0 where
+  pub can : can_go g held n ≡ true
   pub long : length marks ≡ 16
-  pub each : r ≡ true → (j : ℕ) → j ≤ n
-      → at marks j ≡ bare_mark (shape g) (get_or (kept_points (shape g) (take g.indices first) (take n order)) j [])
+  pub each : (j : ℕ) → j ≤ n → at marks j
+      ≡ bare_mark (shape g) (get_or (kept_points (shape g) (take g.indices held.first) (take n held.order)) j [])
+
+abbrev pub Marked : GridStruct → Held → ℕ → Option (List ℕ) → Type 0
+Marked g held n None = can_go g held n ≡ false
+Marked g held n (Some marks) = AreMarks g held n marks
 
 -- the position in each mark of the first n + 1 is in the table, and the mark has room for a label
 pub record CanReadLabels (table marks : List ℕ) (n : ℕ) : Type 0 where

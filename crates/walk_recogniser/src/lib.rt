@@ -3,9 +3,9 @@
 // asks.
 #![tactic(auto)]
 
-ghost use Rattle.std.specs.Prelude.{◌≡◌, take};
+ghost use Rattle.std.specs.Prelude.{take};
 ghost use Rattle.grid.specs.Made.{shape};
-ghost use Rattle.walk_recogniser.specs.Kept.{CanRecognise, Recognised};
+ghost use Rattle.walk_recogniser.specs.Kept.{CanRecognise, Recognised, StaysAt};
 ghost use Rattle.walk_recogniser.specs.Pieces.{bare_mark, started_on};
 
 mod coefficients;
@@ -16,9 +16,11 @@ use arrays::zeros;
 use coefficients::coefficients;
 use free::{is_free, sets_of};
 use grid::Grid;
+use moves::Held;
 use points::mark_points;
 pub use points::read_labels;
 use positions::ENTRIES;
+use rules::Round;
 
 // T and U as masks.
 #[derive(Clone, Copy)]
@@ -27,40 +29,31 @@ pub struct Sets {
     pub u: u16,
 }
 
-// Recognises the first n + 1 points of a first point and an order, and puts the first point's coefficients and the
-// positions of all points, in marks without labels, into their arrays. Where they are none, what the two arrays hold is
-// free: some of these numbers may stand there, and a caller that is told None reads neither.
+// Recognises the first n + 1 points of the first point and the order that are held, and puts the first point's
+// coefficients and the positions of all points, in marks without labels, beside them. Where they are none, the
+// coefficients may stand there already, and a caller that is told None reads neither.
 pub fn recognise(
     g: Grid,
     binomials: &[u16; ENTRIES],
     start: &[u16],
-    previous: &[u8; 16],
-    sizes: &[u8; 16],
-    first: &[u16; 16],
-    order: &[u32; 16],
+    round: &Round,
+    held: &mut Held,
     n: usize,
-    list: &mut [u16; 16],
-    marks: &mut [u32; 16],
 ) -> Option<Sets>
-    requires { CanRecognise g binomials.now start.now previous.now sizes.now first.now order.now n
-        marks.old }
-    ensures { Recognised (started_on g start.now) (bare_mark (shape g))
-        (take g.indices first.now) (take n order.now)
-        list.new marks.new result }
+    requires { CanRecognise g binomials.now start.now round.now n }
+    ensures stays { StaysAt held.old held.new }
+    ensures recognised { Recognised (started_on g start.now) (bare_mark (shape g))
+        (take g.indices held.new.first) (take n held.new.order) held.new result }
 {
     let m = g.indices;
-    if !g.is_grid_point(&first[..m]) {
+    if !g.is_grid_point(&held.first[..m]) {
         return None;
     }
-    let sets = sets_of(order, n, m, zeros(first, m))?;
-    *list = coefficients(g, start, first);
-    if !is_free(g, list, sets.t, sets.u) {
+    let sets = sets_of(&held.order, n, m, zeros(&held.first, m))?;
+    held.coefficients = coefficients(g, start, &held.first);
+    if !is_free(g, &held.coefficients, sets.t, sets.u) {
         return None;
     }
-    if !mark_points(
-        g, binomials, previous, sizes, first, sets.u, order, n, marks,
-    ) {
-        return None;
-    }
+    held.marks = mark_points(g, binomials, round, held, sets.u, n)?;
     Some(sets)
 }

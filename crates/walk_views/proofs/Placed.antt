@@ -8,16 +8,16 @@ use lib.ListN.{length, replicate, take, get_or, length-map, length-take}
 use lib.Seq.{get_or-take}
 use native.Mathlib.Nat.{le_trans, mul-le-mul_left, mul-le-mul_right}
 use native.Mathlib.Omega.{arith}
-use Rattle.arrays.specs.Rounds.{round_of}
 use Rattle.combinatorics.proofs.Basics.{false_of}
 use Rattle.combinatorics.specs.Front.{front, padded}
 use Rattle.combinatorics.specs.Lists.{concat_map}
 use Rattle.grid.proofs.Fields.{made-indices}
-use Rattle.grid_points.specs.Grid.{Grid, Point, at, block_of, num_indices, size}
+use Rattle.grid_points.specs.Grid.{Grid, Point, num_indices}
 use Rattle.grid.specs.Made.{IsMade, shape}
 use Rattle.grid.specs.declared.Grid.{Grid as GridStruct}
-use Rattle.moves.specs.Held.{state_of}
+use Rattle.moves.specs.Held.{state_of, state_with}
 use Rattle.moves.specs.Room.{CanPut}
+use Rattle.moves.specs.declared.holding.Held.{Held}
 use Rattle.moves.specs.declared.Status.{Status}
 use Rattle.place.specs.Places.{Simplex, is_place}
 use Rattle.place.specs.Problem.{Problem}
@@ -33,18 +33,19 @@ use Rattle.walk_recogniser.specs.declared.Sets.{Sets}
 use Rattle.rules.proofs.StatePoints.{all-points, ready-point}
 use Rattle.rules.specs.Read.{mark_of, numbers_from, points_from}
 use Rattle.rules.specs.Moves.{State}
+use Rattle.rules.specs.declared.Round.{Round}
 use Rattle.walks.specs.Kept.{kept_points}
 use Rattle.walks.specs.Walk.{over}
-use Rattle.walk_next.proofs.Stood.{ok, round_of_lem}
+use Rattle.walk_next.proofs.Stood.{ok}
 use Rattle.walk_places.specs.Placing.{CanSee}
 use Rattle.walk_ways.proofs.Carried.{points-long}
 use Rattle.walk_ways.proofs.Kept.{describes, full, place-filled}
 use Rattle.walk_ways.specs.Lent.{LentPlace}
 use Rattle.walk_views.specs.Viewed.{CanPoint, no_points, place_questions, points_at, points_on}
 use Rattle.walk_views.specs.declared.PlacePoints.{PlacePoints}
-use Rattle.walk_ways.specs.Standing.{IsRoundOf}
+use Rattle.walk_ways.specs.Standing.{IsRoundOf, points_kept}
 use Rattle.walk_places.specs.Walks.{holds_numbers, holds_place, place_of, table_on, walk_on}
-use Rattle.walk_places.proofs.Held.{held, held-parts, not_held}
+use Rattle.walk_places.proofs.Held.{held as held-place, held-parts, not_held}
 use Rattle.walk_places.specs.declared.Walk.{Walk as WalkStruct}
 
 abbrev pub points_by : ℕ → List ℕ → PlacePoints
@@ -73,29 +74,25 @@ module _ (g : Grid) (w : WalkStruct) (labels : List ℕ) where
     points-there t = let z : first_no (place_questions q s) ≡ 0 = asked-next (table_questions q) (ask 20
         (is_place q s) ∷ []) refl asked ∙ (rw t) in rw z
 
-module _ {g : GridStruct} {w : WalkStruct} {labels first order : List ℕ} {n : ℕ} {sets : Sets}
-    (C : CanPoint g w labels first order n sets)
-    (sizes : List ℕ) (is : (h : ℕ) → h < g.indices → at sizes h ≡ size (shape g) (block_of (shape g) h)) where
+module _ {g : GridStruct} {w : WalkStruct} {labels : List ℕ} {held : Held} {n : ℕ} {sets : Sets}
+    (C : CanPoint g w labels held n sets) {round : Round} (N : IsRoundOf g round) where
   abbrev p : Problem
   p = table_on g w labels
 
   abbrev y : Point
-  y = take g.indices first
+  y = take g.indices held.first
 
   abbrev o : List ℕ
-  o = take n order
+  o = take n held.order
 
   abbrev here : Simplex
   here = kept_points (shape g) y o
-
-  N : IsRoundOf g g.previous g.next sizes
-  N = round_of_lem g C.sees.made sizes is
 
   m_is : g.indices ≡ num_indices (shape g)
   m_is = made-indices g C.sees.made
 
   long-o : length o ≡ n
-  long-o = length-take n order ∙ omega (arith, C.sees.order_long, C.sees.few)
+  long-o = length-take n held.order ∙ omega (arith, held.order_long, C.sees.few)
 
   abbrev status : Status
   status = record { rule = 1; count = n; t = sets.t; u = sets.u; active = 0 }
@@ -107,17 +104,17 @@ module _ {g : GridStruct} {w : WalkStruct} {labels first order : List ℕ} {n : 
   markings = map (mark_of filled) here
 
   abbrev state : State
-  state = state_of (round_of g.previous g.next sizes) first C.list order markings status
+  state = state_with round held.first held.coefficients held.order markings status
 
   here-long : length here ≡ suc n
   here-long = points-long (ok C.sees) y o C.place ∙ ap suc long-o
 
   lent : LentPlace p filled y o state
   lent = record {
-    round = N.round;
+    round = N.0;
     order_is = refl;
-    first_long = C.sees.first_long;
-    first_at = λ k l. sym (get_or-take g.indices first k 0 (omega (arith, m_is)));
+    first_long = held.first_long;
+    first_at = λ k l. sym (get_or-take g.indices held.first k 0 (omega (arith, m_is)));
     list_long = C.seen.list_long;
     list_at = C.seen.list_at;
     in_t = C.seen.in_t;
@@ -127,27 +124,25 @@ module _ {g : GridStruct} {w : WalkStruct} {labels first order : List ℕ} {n : 
         ∙ marked-at here j (omega (arith, here-long, long-o));
   }
     where
-      marked-at : (r : Simplex) (j : ℕ) → j < length r → get_or (map (mark_of filled) r) j 0 ≡ mark_of filled (get_or r j [])
+      marked-at : (r : Simplex) (j : ℕ) → j < length r
+          → get_or (map (mark_of filled) r) j 0 ≡ mark_of filled (get_or r j [])
       marked-at [] j m = absurd (omega arith)
       marked-at (z ∷ r) zero m = refl
       marked-at (z ∷ r) (suc j) m = marked-at r j (omega arith)
 
   abbrev told : State
-  told = state_of (round_of g.previous [] sizes) first [] order [] status
+  told = state_of round held status
 
   pub can_put : CanPut told g.indices 0 256
   can_put = record {
-    below = N.below.backward;
-    first_length = C.sees.first_long;
-    points = rw (ap length refl) (ready-point (full (ok C.sees) y o C.place) (describes (ok C.sees) y o
-        C.place state lent) (length o) (omega arith));
+    below = N.1.backward;
+    first_length = held.first_long;
+    points = ready-point (full (ok C.sees) y o C.place) (describes (ok C.sees) y o C.place state lent) (length o)
+        (omega arith);
     short = omega (arith, m_is, (ok C.sees).has_start.sixteen_indices);
     low = omega (arith, long-o);
-    fits = product (suc (length o) - 0) g.indices (omega (arith, long-o, C.sees.few)) (omega (
-      arith,
-      m_is,
-      (ok C.sees).has_start.sixteen_indices,
-    ));
+    fits = product (suc (length o) - 0) g.indices (omega (arith, long-o, C.sees.few))
+        (omega (arith, m_is, (ok C.sees).has_start.sixteen_indices));
   }
     where
       product : (x m : ℕ) → x ≤ 16 → m ≤ 16 → x * m ≤ 256
@@ -160,8 +155,7 @@ module _ {g : GridStruct} {w : WalkStruct} {labels first order : List ℕ} {n : 
   points-here =
       all-points (full (ok C.sees) y o C.place) (describes (ok C.sees) y o C.place state lent)
       ∙ points_of_coefficients_of (filled_full (accepted-table (ok C.sees))).has_start here
-      (parts filled here (place-filled (ok
-      C.sees) y o C.place)).grid_points
+      (parts filled here (place-filled (ok C.sees) y o C.place)).grid_points
 
   numbers-here : numbers_from g.indices told 0 ≡ concat_map (λ y. y) here
   numbers-here = ap (λ (m : ℕ). numbers_from m told 0) m_is ∙ ap (concat_map (λ y. y)) points-here
@@ -193,16 +187,14 @@ module _ (g : GridStruct) (w : WalkStruct) (labels : List ℕ) (made : IsMade g)
       (subst (λ (s : Simplex). is_place (table_on g w labels) s ≡ true) (not_held (shape g) w.present (rw (←
       (made-indices g made)) f)) h))
 
-  module _ (h : holds_numbers g.indices w.present ≡ true) (fl : length w.present.first ≡ 16) (ol : length
-      w.present.order ≡ 16) (n : ℕ)
-      (is : n ≡ pred w.present.count) where
+  module _ (h : holds_numbers g.indices w.present ≡ true) (n : ℕ) (is : n ≡ pred w.present.count) where
     holds : holds_place (shape g) w.present ≡ true
     holds = rw (← (made-indices g made)) h
 
-    pub view : CanSee g w labels w.present.first w.present.order n
+    pub view : CanSee g w labels n
     view = let k = held-parts (shape g) w.present holds in
-        record { made = made; asked = asked; few = omega (arith, is, k.0, k.1); first_long = fl; order_long = ol }
+        record { made = made; asked = asked; few = omega (arith, is, k.0, k.1) }
 
-    pub present-is : place_of (shape g) w.present ≡ kept_points (shape g) (take g.indices w.present.first)
-        (take n w.present.order)
-    present-is = held (shape g) w.present holds ∙ rw (is, made-indices g made)
+    pub present-is : (at : Held) → at.first ≡ w.present.first → at.order ≡ w.present.order
+        → place_of (shape g) w.present ≡ points_kept g at.first at.order n
+    present-is at first order = held-place (shape g) w.present holds ∙ rw (first, order, is, made-indices g made)

@@ -5,6 +5,7 @@ use Rattle.combinatorics.specs.Front.{padded}
 use Rattle.grid_points.specs.Grid.{Grid}
 use Rattle.grid.specs.Made.{shape}
 use Rattle.grid.specs.declared.Grid.{Grid as GridStruct}
+use Rattle.moves.specs.declared.holding.Held.{Held}
 use Rattle.place.specs.Places.{Simplex, is_place}
 use Rattle.place.specs.Problem.{Problem}
 use Rattle.place.specs.Questions.{table_questions}
@@ -40,13 +41,11 @@ points_on g w labels =
 abbrev pub points_of : WalkStruct → List ℕ → PlacePoints
 points_of w labels = points_on (walk_grid w) w labels
 
--- the walk passes questions 1 to 7, and its present place is one
-pub record CanPoint (g : GridStruct) (w : WalkStruct) (labels first order : List ℕ) (n : ℕ)
-    (sets : Sets) : Type 0 where
-  pub sees : CanSee g w labels first order n
-  pub present : place_of (shape g) w.present ≡ points_by g first order n
-  pub place : is_place (table_on g w labels) (points_by g first order n) ≡ true
-  pub list : List ℕ
-  pub marks : List ℕ
-  pub seen : Seen (table_on g w labels) (mark_of (table_on g w labels)) (take g.indices first) (take n order) list marks
-      sets.t sets.u
+-- the walk passes questions 1 to 7, and its present place is one, which is held
+pub record CanPoint (g : GridStruct) (w : WalkStruct) (labels : List ℕ) (held : Held) (n : ℕ) (sets : Sets)
+    : Type 0 where
+  pub sees : CanSee g w labels n
+  pub present : place_of (shape g) w.present ≡ points_by g held.first held.order n
+  pub place : is_place (table_on g w labels) (points_by g held.first held.order n) ≡ true
+  pub seen : Seen (table_on g w labels) (mark_of (table_on g w labels)) (take g.indices held.first) (take n held.order)
+      held sets.t sets.u

@@ -7,12 +7,12 @@ ghost use Rattle.walk_places.specs.Walks.{table_on};
 ghost use Rattle.walk_views.specs.Viewed.{CanPoint, no_points, points_at, points_of, points_on};
 
 use crate::PlacePoints;
-use arrays::block_sizes;
+use arrays::round_of;
 use grid::Grid;
-use moves::{Status, put_points};
+use moves::{Held, Status};
 use walk_calls::{first_table_no, grid_in};
 use walk_next::spare;
-use walk_places::{Walk, is_kept, seen};
+use walk_places::{Walk, held_in, is_kept, seen};
 use walk_recogniser::Sets;
 
 // A refusal.
@@ -27,19 +27,10 @@ fn no_points(code: u8) -> PlacePoints
 }
 
 // The points of a place that is recognised.
-fn put(
-    g: Grid,
-    w: Walk,
-    labels: &[u8],
-    first: &[u16; 16],
-    order: &[u32; 16],
-    n: usize,
-    sets: Sets,
-) -> PlacePoints
-    requires { CanPoint g w labels.now first.now order.now n sets }
+fn put(g: Grid, w: Walk, labels: &[u8], held: &Held, n: usize, sets: Sets) -> PlacePoints
+    requires { CanPoint g w labels.now held.now n sets }
     ensures { result ≡ points_at (shape g) w }
 {
-    let sizes = block_sizes(g);
     let s = Status {
         rule: 1,
         count: n,
@@ -47,17 +38,9 @@ fn put(
         u: sets.u,
         active: 0,
     };
+    let round = round_of(g);
     let mut numbers = [0u16; 256];
-    let count = put_points(
-        &mut numbers,
-        &g.previous,
-        &sizes,
-        first,
-        order,
-        s,
-        g.indices,
-        0,
-    );
+    let count = held.put_points(&round, s, g.indices, 0, &mut numbers);
     PlacePoints {
         code: 0,
         count,
@@ -70,30 +53,19 @@ fn points_on(g: Grid, w: Walk, labels: &[u8]) -> PlacePoints
     requires { IsMade g × (first_no (table_questions (table_on g w labels.now)) ≡ 0) }
     ensures { result ≡ points_on (shape g) w labels.now }
 {
-    let here = w.present;
-    if !is_kept(here, g.indices) {
+    if !is_kept(w.present, g.indices) {
         return no_points(20);
     }
-    let n = usize::from(here.count) - 1;
-    let mut list = [0u16; 16];
-    let mut marks = [0u32; 16];
-    let Some(sets) = seen(
-        g,
-        w,
-        labels,
-        &here.first,
-        &here.order,
-        n,
-        &mut list,
-        &mut marks,
-    ) else {
+    let n = usize::from(w.present.count) - 1;
+    let mut held = held_in(w.present);
+    let Some(sets) = seen(g, w, labels, &mut held, n) else {
         return no_points(20);
     };
-    let spared = spare(&marks, n, sets.t);
+    let spared = spare(&held.marks, n, sets.t);
     if spared.seen != sets.t {
         return no_points(20);
     }
-    put(g, w, labels, &here.first, &here.order, n, sets)
+    put(g, w, labels, &held, n, sets)
 }
 
 // Gives the points of the present place: questions 1 to 7 are put, and 20 of the place alone.

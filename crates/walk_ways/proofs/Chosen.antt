@@ -46,6 +46,7 @@ use Rattle.rules.specs.Ready.{Ready}
 use Rattle.rules.proofs.Range.{index_below}
 use Rattle.rules.proofs.WaysRound.{source-from}
 use Rattle.rules.specs.Moves.{After, State, ends_at_facet, ends_at_place, goes, make_move, source_in}
+use Rattle.rules.specs.declared.Round.{Round}
 use Rattle.trail.specs.Change.{ByRule, change}
 use Rattle.walks.proofs.Moved.{calls_hold}
 use Rattle.walks.specs.Kept.{kept_points}
@@ -78,8 +79,8 @@ map_fill [] i l = absurd (omega arith)
 map_fill (x ∷ ls) zero l = refl
 map_fill (x ∷ ls) (suc i) l = map_fill ls i (omega arith)
 
-module _ {g : GridStruct} {w : WalkStruct} {labels : List ℕ} {held : Held} {n t u point : ℕ} {unknown : Bool}
-    (S : Standing g w labels held n t u point unknown) where
+module _ {g : GridStruct} {w : WalkStruct} {labels : List ℕ} {held : Held} {here : Status} {unknown : Bool}
+    (S : Standing g w labels held here unknown) where
   abbrev pub p : Problem
   p = table_on g w labels
 
@@ -87,7 +88,7 @@ module _ {g : GridStruct} {w : WalkStruct} {labels : List ℕ} {held : Held} {n 
   y = take g.indices held.first
 
   abbrev pub o : List ℕ
-  o = take n held.order
+  o = take here.count held.order
 
   abbrev s : Simplex
   s = kept_points (shape g) y o
@@ -98,33 +99,36 @@ module _ {g : GridStruct} {w : WalkStruct} {labels : List ℕ} {held : Held} {n 
   pub m_is : g.indices ≡ num_indices (shape g)
   m_is = made-indices g S.made
 
-  pub long-o : length o ≡ n
-  long-o = length-take n held.order ∙ omega (arith, S.order_long, S.few)
+  pub long-o : length o ≡ here.count
+  long-o = length-take here.count held.order ∙ omega (arith, held.order_long, S.few)
 
   -- the label that is not yet known is that of the spare point
-  pub only-unknown : (j : ℕ) → j ≤ n → label p (get_or s j []) ≡ 0 → j ≡ point
-  only-unknown j l z = go n refl
+  pub only-unknown : (j : ℕ) → j ≤ here.count → label p (get_or s j []) ≡ 0 → j ≡ here.active
+  only-unknown j l z = go here.count refl
     where
-      go : (k : ℕ) → n ≡ k → j ≡ point
+      go : (k : ℕ) → here.count ≡ k → j ≡ here.active
       go zero e = omega (arith, S.low)
-      go (suc k) e = unknown-only ok y o S.place k (long-o ∙ e) point j (omega (arith, S.low)) (omega arith) S.spare z
+      go (suc k) e =
+          let low : here.active ≤ suc k = omega (arith, S.low) in
+          unknown-only ok y o S.place k (long-o ∙ e) here.active j low (omega arith) S.spare z
 
-  filled-mark : (j : ℕ) → j ≤ n → mark_of p (get_or s j []) + cond (unknown && eqb j point) 1 0 ≡ mark_of (filled_table p)
-      (get_or s j [])
+  filled-mark : (j : ℕ) → j ≤ here.count
+      → mark_of p (get_or s j []) + cond (unknown && eqb j here.active) 1 0 ≡ mark_of (filled_table p) (get_or s j [])
   unfolding label
   filled-mark j l =
       ⊎_elim (λ (z : label p (get_or s j []) ≡ 0).
       let e = only-unknown j l z in
       let un : unknown ≡ true = S.unknown_is ∙ eq-eqb _ 0 (ap (λ (i : ℕ). label p (get_or s i [])) (sym e) ∙ z) in
-      let f : label (filled_table p) (get_or s j []) ≡ 1 = map_fill labels (position p.grid (get_or s j [])) low-position ∙
-      ap fill z in
-      rw (un, eq-eqb j point e) (omega (arith, f, z)))
+      let f : label (filled_table p) (get_or s j []) ≡ 1 =
+      map_fill labels (position p.grid (get_or s j [])) low-position ∙ ap fill z in
+      rw (un, eq-eqb j here.active e) (omega (arith, f, z)))
       (λ (z : label p (get_or s j []) ≡ 0 → ⊥).
       let f : label (filled_table p) (get_or s j []) ≡ label p (get_or s j []) =
       filled-label (accepted-table ok) (get_or s j [])
       (omega (arith, z)) in
-      let c : (unknown && eqb j point) ≡ false = false_of _ (λ q. z (
-      let un = and_left unknown (eqb j point) q in let e = eqb-true j point (and_right unknown (eqb j point) q) in
+      let c : (unknown && eqb j here.active) ≡ false = false_of _ (λ q. z (
+      let un = and_left unknown (eqb j here.active) q in
+      let e = eqb-true j here.active (and_right unknown (eqb j here.active) q) in
       ap (λ (i : ℕ). label p (get_or s i [])) e ∙ eqb-true _ 0 (sym S.unknown_is ∙ un))) in
       rw c (omega (arith, f)))
       (same_or (label p (get_or s j [])) 0)
@@ -141,7 +145,7 @@ module _ {g : GridStruct} {w : WalkStruct} {labels : List ℕ} {held : Held} {n 
   -- the state of a move
   module _ {round : Round} (N : IsRoundOf g round) where
     abbrev pub status_as : ℕ → Status
-    status_as rule = record { rule = rule; count = n; t = t; u = u; active = point }
+    status_as rule = record { rule = rule; count = here.count; t = here.t; u = here.u; active = here.active }
 
     abbrev pub state_as : ℕ → State
     state_as rule = state_of round held (status_as rule)
@@ -150,15 +154,15 @@ module _ {g : GridStruct} {w : WalkStruct} {labels : List ℕ} {held : Held} {n 
     lent rule = record {
       round = N.0;
       order_is = refl;
-      first_long = S.first_long;
+      first_long = held.first_long;
       first_at = λ k l. sym (get_or-take g.indices held.first k 0 (omega (arith, m_is)));
       list_long = S.list_long;
       list_at = S.list_at;
       in_t = S.in_t;
       in_u = S.in_u;
-      marks_long = length-take (suc n) held.marks ∙ omega (arith, S.marks_long, S.few, long-o);
-      marked = λ j l. let jl : j ≤ n = omega (arith, long-o) in
-          get_or-take (suc n) held.marks j 0 (omega arith) ∙ S.marked j jl ∙ filled-mark j jl;
+      marks_long = length-take (suc here.count) held.marks ∙ omega (arith, S.marks_long, S.few, long-o);
+      marked = λ j l. let jl : j ≤ here.count = omega (arith, long-o) in
+          get_or-take (suc here.count) held.marks j 0 (omega arith) ∙ S.marked j jl ∙ filled-mark j jl;
     }
 
     abbrev pub q : Problem
@@ -172,29 +176,29 @@ module _ {g : GridStruct} {w : WalkStruct} {labels : List ℕ} {held : Held} {n 
     abbrev walk : Walk
     walk = walk_on (shape g) w
 
-    pub tried_start : n ≡ 0 → point ≡ 0 → (rule : ℕ) → rule < 6 → Tried rule
+    pub tried_start : here.count ≡ 0 → here.active ≡ 0 → (rule : ℕ) → rule < 6 → Tried rule
     tried_start e f rule r = record {
       ready = ready_v walk labels ok y o S.present S.place S.counted (long-o ∙ e) (state_as rule) (lent rule) f r;
       fits = fits_v walk labels ok y o S.present S.place S.counted (long-o ∙ e) (state_as rule) (lent rule) f r;
     }
 
-    module _ {k : ℕ} (e : n ≡ suc k) where
-      low-point : point ≤ suc k
+    module _ {k : ℕ} (e : here.count ≡ suc k) where
+      low-point : here.active ≤ suc k
       low-point = omega (arith, S.low)
 
       pub tried_on : (rule : ℕ) → rule < 6 → Tried rule
       tried_on rule r = record {
-        ready = ready_a walk labels ok y o S.present S.place S.counted k (long-o ∙ e) point low-point S.spare
+        ready = ready_a walk labels ok y o S.present S.place S.counted k (long-o ∙ e) here.active low-point S.spare
             (state_as rule) (lent rule) refl r;
-        fits = fits_a walk labels ok y o S.present S.place S.counted k (long-o ∙ e) point low-point S.spare
+        fits = fits_a walk labels ok y o S.present S.place S.counted k (long-o ∙ e) here.active low-point S.spare
             (state_as rule) (lent rule) refl r;
       }
 
       pub tried_back : (rule : ℕ) → 6 ≤ rule → Tried rule
       tried_back rule r = record {
-        ready = ready_b walk labels ok y o S.present S.place S.counted k (long-o ∙ e) point low-point S.spare
+        ready = ready_b walk labels ok y o S.present S.place S.counted k (long-o ∙ e) here.active low-point S.spare
             (state_as rule) (lent rule) refl r;
-        fits = fits_b walk labels ok y o S.present S.place S.counted k (long-o ∙ e) point low-point S.spare
+        fits = fits_b walk labels ok y o S.present S.place S.counted k (long-o ∙ e) here.active low-point S.spare
             (state_as rule) (lent rule) refl r;
       }
 
@@ -204,7 +208,7 @@ module _ {g : GridStruct} {w : WalkStruct} {labels : List ℕ} {held : Held} {n 
       a = state_as rule
 
       can_try : CanTry a
-      can_try = record { short = λ e z. let f = R.fits.moves e z in (f.0, f.1); first_long = S.first_long }
+      can_try = record { short = λ e z. (R.fits.moves e z).0 }
 
       pub can_move : CanStep a × CanTry a × (g.indices ≤ 16)
       can_move = (
@@ -216,10 +220,10 @@ module _ {g : GridStruct} {w : WalkStruct} {labels : List ℕ} {held : Held} {n 
         omega (arith, m_is, ok.has_start.sixteen_indices),
       )
 
-      can_put : (from : ℕ) → from ≤ n → CanPut a g.indices from 256
+      can_put : (from : ℕ) → from ≤ here.count → CanPut a g.indices from 256
       can_put from l = record {
         below = N.1.backward;
-        first_length = S.first_long;
+        first_length = held.first_long;
         points = rw (ap length refl) (ready-point (full ok y o S.place) (describes ok y o S.place a (lent rule))
             (length o) (omega arith));
         short = omega (arith, m_is, ok.has_start.sixteen_indices);
@@ -302,8 +306,8 @@ module _ {g : GridStruct} {w : WalkStruct} {labels : List ℕ} {held : Held} {n 
       points-here = points_of_coefficients_of (filled_full (accepted-table ok)).has_start s
           (parts q s (place-filled ok y o S.place)).grid_points
 
-      masks : ((k : ℕ) → k < 16 → bit t k ≡ is_in eqb k (set_t p s)) ×
-          ((k : ℕ) → k < 16 → bit u k ≡ is_in eqb k (set_u (shape g) s))
+      masks : ((k : ℕ) → k < 16 → bit here.t k ≡ is_in eqb k (set_t p s)) ×
+          ((k : ℕ) → k < 16 → bit here.u k ≡ is_in eqb k (set_u (shape g) s))
       masks = let m = described_masks (full ok y o S.place) (describes ok y o S.place a (lent rule)) in (
         λ k l. m.0 k l ∙ ap (λ (z : Simplex). is_in eqb k (set_t q z)) points-here ∙ ap (λ (z : List ℕ). is_in eqb k z)
             (set_t-same p (map fill labels) s),
@@ -311,7 +315,7 @@ module _ {g : GridStruct} {w : WalkStruct} {labels : List ℕ} {held : Held} {n 
       )
 
       -- b of the first step is not in U
-      outside : 1 ≤ length o → bit u (source_in a (at o 0)) ≡ false
+      outside : 1 ≤ length o → bit here.u (source_in a (at o 0)) ≡ false
       outside l =
           let D = describes ok y o S.place a (lent rule) in
           let low = index_below (full ok y o S.place) D.chain (at o 0)
@@ -328,12 +332,12 @@ module _ {g : GridStruct} {w : WalkStruct} {labels : List ℕ} {held : Held} {n 
           let b = (calls_hold walk labels).rule (rule_of p walk.present (kept_by q e)) (rw z) in
           let c : ByRule (change p walk.present (kept_by q e)) (rule_of p walk.present (kept_by q e)) = rw z at b in
           let few = ok.has_start.sixteen_indices in
-          sym (rule-made (lent rule) R.ready N.below.backward outside e x)
+          sym (rule-made (lent rule) R.ready N.1.backward outside e x)
           ∙ rule_told p walk.present (kept_by q e)
-          (mask_t p few _ t (λ k l. rw S.present (masks.0 k l)))
+          (mask_t p few _ here.t (λ k l. rw S.present (masks.0 k l)))
           (mask_t p few _ e.T (λ k l. f.3 k l ∙ ap (λ (r : List ℕ). is_in eqb k r)
           (set_t-same p (map fill labels) (kept_by q e))))
-          (mask_u p few _ u (λ k l. rw S.present (masks.1 k l)))
+          (mask_u p few _ here.u (λ k l. rw S.present (masks.1 k l)))
           (mask_u p few _ e.U f.4) c
 
       long-points : (f : ℕ → Point) (b k : ℕ) → length (map f (up_from b k)) ≡ k

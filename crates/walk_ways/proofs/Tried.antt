@@ -22,19 +22,22 @@ use Rattle.walk_ways.specs.declared.Move.{Move}
 abbrev made : Leads → Place → Move
 made leads place = record { leads = leads; place = place }
 
-module _ (m : ℕ) {a : State} {round : Round} {held : Held} {s : Status} {o : Outcome}
+module _ (m : ℕ) (round : Round) (held : Held) (s : Status) {a : State} {o : Outcome}
     (H : answered round held s o ≡ make_move a) (C : CanTry a) where
   module _ {r : Status} (is : o ≡ Moved r) where
     after : goes (state_of round held r) ≡ make_move a
     after = rw is at H
 
-    pub few : (r.count ≤ 15) × (length held.first ≡ 16)
-    few =
-        let w = C.short (state_of round held r) (sym after) in
-        (omega (arith, w.0, length-take r.count held.order, held.order_long), w.1)
+    pub few : r.count ≤ 15
+    few = omega (
+      arith,
+      C.short (state_of round held r) (sym after),
+      length-take r.count held.order,
+      held.order_long,
+    )
 
     long : length (take r.count held.order) ≡ r.count
-    long = length-take r.count held.order ∙ omega (arith, few.0, held.order_long)
+    long = length-take r.count held.order ∙ omega (arith, few, held.order_long)
 
     pub way_moved : made (Onto r.rule) (kept_as m held.first held.order r.count)
         ≡ way_in m (make_move a)

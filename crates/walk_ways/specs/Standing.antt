@@ -12,6 +12,7 @@ use Rattle.questions.specs.Questions.{first_no}
 use Rattle.rules.specs.Mask.{bit}
 use Rattle.rules.specs.Read.{mark_of}
 use Rattle.moves.specs.declared.holding.Held.{Held}
+use Rattle.moves.specs.declared.Status.{Status}
 use Rattle.rules.specs.Ready.{IsRound, RoundBelow}
 use Rattle.rules.specs.declared.Round.{Round}
 use Rattle.walks.specs.Kept.{kept_points, zero_outside}
@@ -48,28 +49,30 @@ abbrev pub IsRoundOf : GridStruct → Round → Type 0
 IsRoundOf g round = IsRound (shape g) round × RoundBelow round
 
 -- The walk passes questions 1 to 7, its counts are in range, it carries its place's labels, and its present place is
--- one. T and U are masks, and the marks held have index 1 for the label that is not yet known, if any: that of the spare
--- point.
-pub record Standing (g : GridStruct) (w : WalkStruct) (labels : List ℕ) (held : Held) (n t u point : ℕ)
+-- one, which is held. T and U are masks, the point that a status has as the active one is the spare point, and the marks
+-- have index 1 for the label that is not yet known, if any: that of this point.
+pub record Standing (g : GridStruct) (w : WalkStruct) (labels : List ℕ) (held : Held) (here : Status)
     (unknown : Bool) : Type 0 where
   pub made : IsMade g
   pub asked : first_no (table_questions (table_on g w labels)) ≡ 0
-  pub few : n ≤ 15
-  pub first_long : length held.first ≡ 16
+  pub came_in : here.rule < 6
+  pub few : here.count ≤ 15
   pub list_long : length held.coefficients ≡ 16
-  pub order_long : length held.order ≡ 16
   pub marks_long : length held.marks ≡ 16
-  pub present : place_of (shape g) w.present ≡ points_kept g held.first held.order n
-  pub place : is_place (table_on g w labels) (points_kept g held.first held.order n) ≡ true
-  pub in_t : (k : ℕ) → k < 16 → bit t k ≡ is_in eqb k (take n held.order)
-  pub in_u : (k : ℕ) → k < 16 → bit u k ≡ is_in eqb k (zero_outside (shape g) (take n held.order) (take g.indices held.first))
-  pub list_at : (k : ℕ) → k < num_indices (shape g) → at held.coefficients k ≡ at
-      (coefficients (table_on g w labels) (take g.indices held.first)) k
-  pub low : point ≤ n
-  pub spare : Spare (table_on g w labels) (points_kept g held.first held.order n) (take n held.order) point
-  pub unknown_is : unknown ≡ eqb (label (table_on g w labels) (get_or (points_kept g held.first held.order n) point [])) 0
-  pub marked : (j : ℕ) → j ≤ n
-      → at held.marks j ≡ mark_of (table_on g w labels) (get_or (points_kept g held.first held.order n) j []) + cond
-      (unknown && eqb j point)
-      1 0
+  pub present : place_of (shape g) w.present ≡ points_kept g held.first held.order here.count
+  pub place : is_place (table_on g w labels) (points_kept g held.first held.order here.count) ≡ true
+  pub in_t : (k : ℕ) → k < 16 → bit here.t k ≡ is_in eqb k (take here.count held.order)
+  pub in_u : (k : ℕ) → k < 16
+      → bit here.u k ≡ is_in eqb k (zero_outside (shape g) (take here.count held.order) (take g.indices held.first))
+  pub list_at : (k : ℕ) → k < num_indices (shape g)
+      → at held.coefficients k ≡ at (coefficients (table_on g w labels) (take g.indices held.first)) k
+  pub low : here.active ≤ here.count
+  pub spare : Spare (table_on g w labels) (points_kept g held.first held.order here.count)
+      (take here.count held.order) here.active
+  pub unknown_is : unknown
+      ≡ eqb (label (table_on g w labels) (get_or (points_kept g held.first held.order here.count) here.active [])) 0
+  pub marked : (j : ℕ) → j ≤ here.count
+      → at held.marks j
+      ≡ mark_of (table_on g w labels) (get_or (points_kept g held.first held.order here.count) j [])
+      + cond (unknown && eqb j here.active) 1 0
   pub counted : Counted (walk_on (shape g) w) labels

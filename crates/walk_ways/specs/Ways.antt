@@ -5,10 +5,9 @@ use Rattle.walk_places.specs.Walks.{kept_as, nowhere}
 use Rattle.walk_ways.specs.declared.Leads.TheVariants.{FacetEnd, Onto, PlaceEnd}
 use Rattle.walk_ways.specs.declared.Move.{Move}
 
--- the state after the move fits its arrays
+-- the order of the state after the move fits its array
 pub record CanTry (a : State) : Type 0 where
-  pub short : (e : State) → make_move a ≡ goes e → (length e.order ≤ 15) × (length e.first ≡ 16)
-  pub first_long : length a.first ≡ 16
+  pub short : (e : State) → make_move a ≡ goes e → length e.order ≤ 15
 
 abbrev pub way_in : ℕ → After → Move
 way_in m (goes e) = record { leads = Onto e.rule; place = kept_as m e.first e.order (length e.order) }

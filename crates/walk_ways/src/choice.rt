@@ -14,13 +14,9 @@ use walk_places::{Place, Walk, none, same_place};
 fn leads_back(way: Move, before: Place) -> bool
     ensures { (result ≡ leads_back way before) × (length before.order ≡ 16) }
 {
-    let leads = way.leads;
-    let place = way.place;
-    let same = same_place(place, before);
-    match leads {
-        Leads::Onto(_) => same,
-        Leads::PlaceEnd(_) => false,
-        Leads::FacetEnd(_) => false,
+    match way.leads {
+        Leads::Onto(_) => same_place(way.place, before),
+        Leads::PlaceEnd(_) | Leads::FacetEnd(_) => false,
     }
 }
 
@@ -31,31 +27,21 @@ pub fn from_start(
     held: &Held,
     labels: &[u8],
     w: Walk,
-    t: u16,
-    u: u16,
+    here: Status,
     unknown: bool,
 ) -> Next
-    requires standing { Standing g w labels.now held.now 0 t u 0 unknown }
+    requires standing { Standing g w labels.now held.now here unknown × (here.count ≡ 0) }
     requires round_of { IsRoundOf g round.now }
     ensures { result ≡ next_in g w labels.now }
 {
-    let before = w.before;
-    let nowhere = none();
-    if !same_place(before, nowhere) {
+    if !same_place(w.before, none()) {
         return refused(20);
     }
     if unknown {
         return refused(16);
     }
-    let s = Status {
-        rule: 1,
-        count: 0,
-        t,
-        u,
-        active: 0,
-    };
-    let on = way(round, held, g.indices, s);
-    told(g, round, held, s, on)
+    let on = way(round, held, g.indices, here);
+    told(g, round, held, here, on)
 }
 
 // From any other place: the point leaves, or its label joins T or the other point with that label leaves. One of the
@@ -66,45 +52,27 @@ pub fn from_other(
     held: &Held,
     labels: &[u8],
     w: Walk,
-    n: usize,
-    t: u16,
-    u: u16,
-    point: usize,
+    here: Status,
     unknown: bool,
 ) -> Next
-    requires standing { Standing g w labels.now held.now n t u point unknown × (1 ≤ n) }
+    requires standing { Standing g w labels.now held.now here unknown × (1 ≤ here.count) }
     requires round_of { IsRoundOf g round.now }
     ensures { result ≡ next_in g w labels.now }
 {
-    let before = w.before;
-    let m = g.indices;
-    let leaving = Status {
-        rule: 6,
-        count: n,
-        t,
-        u,
-        active: point,
-    };
-    let staying = Status {
-        rule: 1,
-        count: n,
-        t,
-        u,
-        active: point,
-    };
-    let a = way(round, held, m, leaving);
-    if leads_back(a, before) {
+    let leaving = Status { rule: 6, ..here };
+    let a = way(round, held, g.indices, leaving);
+    if leads_back(a, w.before) {
         if unknown {
             return refused(16);
         }
-        let on = way(round, held, m, staying);
-        return told(g, round, held, staying, on);
+        let on = way(round, held, g.indices, here);
+        return told(g, round, held, here, on);
     }
     if unknown {
         return refused(20);
     }
-    let b = way(round, held, m, staying);
-    if leads_back(b, before) {
+    let b = way(round, held, g.indices, here);
+    if leads_back(b, w.before) {
         return told(g, round, held, leaving, a);
     }
     refused(20)

@@ -13,15 +13,7 @@ use rules::Round;
 use walk_places::none;
 
 // An end with the points from number from on, complete for the block of index h.
-fn ended(
-    g: Grid,
-    round: &Round,
-    held: &Held,
-    s: Status,
-    kind: Kind,
-    h: usize,
-    from: usize,
-) -> Next
+fn ended(g: Grid, round: &Round, held: &Held, s: Status, kind: Kind, h: usize, from: usize) -> Next
     requires made { IsMade g × (h < g.indices) }
     requires can_put { let a = state_of round.now held.now s in
         CanPut a g.indices from 256 × (length a.order ≡ s.count) }
@@ -30,7 +22,6 @@ fn ended(
     let mut simplex = [0u16; 256];
     let vertices = held.put_points(round, s, g.indices, from, &mut simplex);
     let block = g.block_of(h) as u8 + 1;
-    let place = none();
     Next {
         answer: WalkAnswer::Ended {
             kind,
@@ -38,7 +29,7 @@ fn ended(
             vertices,
         },
         simplex,
-        place,
+        place: none(),
     }
 }
 
@@ -46,11 +37,10 @@ fn ended(
 pub fn refused(number: u8) -> Next
     ensures { result ≡ refused_as number }
 {
-    let place = none();
     Next {
         answer: WalkAnswer::Refused(number),
         simplex: [0u16; 256],
-        place,
+        place: none(),
     }
 }
 
@@ -60,13 +50,11 @@ pub fn told(g: Grid, round: &Round, held: &Held, s: Status, way: Move) -> Next
         IsMade g × CanTellEnd g a way × (length a.order ≡ s.count) }
     ensures { result ≡ told_as g (state_of round.now held.now s) way }
 {
-    let leads = way.leads;
-    let place = way.place;
-    match leads {
+    match way.leads {
         Leads::Onto(rule) => Next {
             answer: WalkAnswer::Moved(rule),
             simplex: [0u16; 256],
-            place,
+            place: way.place,
         },
         Leads::PlaceEnd(h) => ended(g, round, held, s, Kind::Place, h, 0),
         Leads::FacetEnd(h) => ended(g, round, held, s, Kind::Facet, h, 1),

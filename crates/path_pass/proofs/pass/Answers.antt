@@ -22,8 +22,8 @@ pub loop-visited-init : goal.loop-visited-init
 loop-visited-init c =
     let a = c.args in
     let w = c.requires in
-    passes-first a.g w.readable.made a.held.now a.table.now w.accepted w.is_round w.no_coefficients w.no_marks
-    c.begun-at.result c.begun-at.ensures
+    passes-first a.g w.readable.made a.held.now c.begun-at.new.held a.table.now w.accepted w.is_round c.begun-at.result
+    c.begun-at.ensures
 
 abbrev place : In-loop-visited → Place
 place c =

@@ -7,4 +7,4 @@ use Rattle.path_pass.proofs.pass.Given as goal
 
 abbrev pub invariant-loop-visited : goal.invariant-loop-visited
 invariant-loop-visited l =
-    Passing (problem_in l.g l.initial.held.first l.table) l.visited l.at (state_of l.round l.held l.at.status)
+    Passing (problem_in l.g l.fn.held.first l.table) l.visited l.at (state_of l.round l.held l.at.status)

@@ -12,7 +12,7 @@ finished : (c : After-pass-finish)
     c.pass-finish.result
 finished c =
     finished_from c.requires c.args.budget c.round_of-round.result c.pass-finish.new.held
-    c.at-held.result c.at-held.ensures c.pass-finish.result c.pass-finish.ensures
+    c.at-held.result c.at-held.ensures.0 c.pass-finish.result c.pass-finish.ensures
 
 pub at-held-requires : goal.at-held-requires
 at-held-requires c = can_pad c.requires
@@ -33,7 +33,7 @@ pub pass-finish-requires : goal.pass-finish-requires
 pass-finish-requires c =
     let lengths = c.rests-lengths in
     let round = c.round_of-round in
-    can_pass c.requires lengths.result lengths.ensures round.result round.ensures.0 round.ensures.1 c.at-held.result c.at-held.ensures
+    can_pass c.requires lengths.result lengths.ensures round.result round.ensures.0 round.ensures.1 c.at-held.result c.at-held.ensures.0
 
 pub announce-requires : goal.announce-requires
 announce-requires c =

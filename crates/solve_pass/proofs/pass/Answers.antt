@@ -22,7 +22,7 @@ loop-visited-init c =
     let a = c.args in
     let p = game_problem (lent a.sizes.now a.divisions.now) (take a.indices a.held.now.first) a.losses.now in
     let B = c.begun-at.ensures in
-    record { here = begins c.requires c.begun-at.result.status B.status; read = begins-reading p _ 1 B.labels refl }
+    record { here = begins c.requires c.begun-at.new.held c.begun-at.result B; read = begins-reading p _ 1 B.labels refl }
 
 -- where the pass stands, and the state there
 abbrev stand : After-visit-outcome → Stand

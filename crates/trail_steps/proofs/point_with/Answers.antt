@@ -2,12 +2,12 @@
 -- the first finds. Assumes nothing.
 use mathlib.Core.List.{List, [], ◌∷◌, map}
 use mathlib.Core.Path.{◌≡◌, refl, sym, ◌∙◌}
-use Prim.Native.Nat.{ℕ, zero, suc, ◌+◌, ◌<◌}
+use Prim.Native.Nat.{ℕ, zero, suc, ◌<◌}
 use lib.ListN.{get_or, length, length-map, take}
 use lib.Seq.{length-take-le}
 use native.Mathlib.Numerals.{add-one}
 use native.Mathlib.Omega.{arith}
-use Rattle.combinatorics.proofs.EditsOfArrays.{first-few, found_here, found-later, found_past}
+use Rattle.combinatorics.proofs.EditsOfArrays.{found_here, found-later}
 use Rattle.rules.specs.Moves.{mark_position}
 use Rattle.trail_steps.proofs.point_with.Goals as goal
 
@@ -24,7 +24,7 @@ loop-k-preserved c =
     let l = c.loop-k in
     let few = take (suc a.n) a.marks.now in
     let long : length few ≡ suc a.n =
-    length-take-le (suc a.n) a.marks.now (omega (arith, c.requires.0, c.requires.1)) in
+    length-take-le (suc a.n) a.marks.now (omega (arith, c.requires)) in
     let in_range_lem : l.k < length (map mark_position few) = omega (arith, length-map few mark_position, long) in
     let e = positions_in few l.k (omega (arith, long)) in
     let at = c.position_at.ensures.0 in
@@ -33,25 +33,15 @@ loop-k-preserved c =
     (λ q. absurd (c.if-position_at-position.false (at ∙ sym e ∙ q))))
     ∙ l.invariant)
 
-pub returns : goal.returns
-returns c =
-    let a = c.args in
-    let l = c.loop-k in
-    let few = take (suc a.n) a.marks.now in
-    let all : a.n + 1 ≡ l.k = omega arith in
-    all ∙ found_past a.position 16 l.k (map mark_position few)
-    (rw (length-map few mark_position) (omega (arith, first-few (suc a.n) a.marks.now)))
-    ∙ l.invariant
-
 pub returns-then-position_at-position : goal.returns-then-position_at-position
 returns-then-position_at-position c =
     let a = c.args in
     let l = c.loop-k in
     let few = take (suc a.n) a.marks.now in
     let long : length few ≡ suc a.n =
-    length-take-le (suc a.n) a.marks.now (omega (arith, c.requires.0, c.requires.1)) in
+    length-take-le (suc a.n) a.marks.now (omega (arith, c.requires)) in
     let in_range_lem : l.k < length (map mark_position few) = omega (arith, length-map few mark_position, long) in
     let e = positions_in few l.k (omega (arith, long)) in
     sym (found_here a.position 16 l.k (map mark_position few) in_range_lem
-    (e ∙ sym c.position_at.ensures.0 ∙ c.if-position_at-position.true) (λ q. absurd (omega (arith, c.requires.0))))
+    (e ∙ sym c.position_at.ensures.0 ∙ c.if-position_at-position.true) (λ q. absurd (omega (arith, c.requires))))
     ∙ l.invariant

@@ -9,6 +9,3 @@ returns-then-next-eq1 c = λ come gone.
     let a = c.args in
     sym (ap length (same_record a.s.t a.s.u a.next.t a.next.u come gone
     (c.requires c.if-next-eq1.true)))
-
-pub returns : goal.returns
-returns c = c.length_of.ensures

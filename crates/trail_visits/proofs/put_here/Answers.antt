@@ -1,21 +1,14 @@
 -- `trail_visits::put_here` meets its contract: the record is that of rule 1, or is made. Assumes nothing.
-use mathlib.Core.List.{[]}
 use mathlib.Core.Path.{◌∙◌}
 use borrow.Author.Tests.{ne_eqb}
 use native.Mathlib.Omega.{arith}
-use Rattle.arrays.specs.Rounds.{no_round}
-use Rattle.moves.specs.Held.{state_of}
 use Rattle.trail_records.proofs.Differences.{same_record}
 use Rattle.trail_records.proofs.Told.{pasted}
 use Rattle.trail_records.specs.Records.{IsRecord}
 use Rattle.trail_visits.specs.Visited.{record_here}
+use Rattle.ways.specs.Ways.{held_marks}
 use Rattle.trail_visits.proofs.put_here.Goals as goal
 use Rattle.trail_visits.proofs.put_here.Goals.{After-kept_record}
-
-pub position_at-come-requires : goal.position_at-come-requires
-position_at-come-requires c =
-    let P = c.requires.positions in
-    (P.active, P.few)
 
 pub kept_record-requires : goal.kept_record-requires
 kept_record-requires c =
@@ -25,7 +18,7 @@ kept_record-requires c =
 -- the record that rule 1 leaves is the place's
 kept : (c : After-kept_record)
     → let a = c.args in
-    IsRecord (record_here (state_of no_round [] [] [] a.marks.now a.s) a.before a.at) c.kept_record.result
+    IsRecord (record_here (held_marks a.marks.now a.s) a.before a.at) c.kept_record.result
 kept c =
     let a = c.args in
     let behind = c.if-at-gt0.true in
@@ -48,9 +41,6 @@ pub returns-then-s-eq1 : goal.returns-then-s-eq1
 returns-then-s-eq1 c =
     let a = c.args in
     c.put.ensures ∙ pasted (kept (goal.at.returns-then-s-eq1 c).After-kept_record) a.trail.now a.at
-
-pub record_here-requires : goal.record_here-requires
-record_here-requires c = c.requires.positions
 
 pub put-requires-2 : goal.put-requires-2
 put-requires-2 c =

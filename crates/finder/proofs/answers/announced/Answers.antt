@@ -13,14 +13,14 @@ pub pass-finish-requires : goal.pass-finish-requires
 pass-finish-requires c =
     let w = c.requires in
     let round = c.round_of-round in
-    can_pass w.readable w.accepted round.result round.ensures.0 round.ensures.1 c.at-held.result c.at-held.ensures
+    can_pass w.readable w.accepted round.result round.ensures.0 round.ensures.1 c.at-held.result c.at-held.ensures.0
 
 finished : (c : After-pass-finish) → (let a = c.args in
     FinishedBy a.g c.requires.readable.made a.start.now a.labels.now a.budget c.round_of-round.result
     c.pass-finish.new.held c.pass-finish.result)
 finished c =
     let w = c.requires in
-    finished_from w.readable w.accepted c.at-held.result c.at-held.ensures c.args.budget c.round_of-round.result
+    finished_from w.readable w.accepted c.at-held.result c.at-held.ensures.0 c.args.budget c.round_of-round.result
     c.pass-finish.new.held c.pass-finish.result c.pass-finish.ensures
 
 pub announce-requires : goal.announce-requires

@@ -3,9 +3,6 @@ use native.Mathlib.Omega.{arith}
 use Rattle.trail_reader.proofs.Rebuilt.{minus_none}
 use Rattle.trail_reader.proofs.answers.placed.Goals as goal
 
-pub put_points-count-requires : goal.put_points-count-requires
-put_points-count-requires c = c.requires
-
 pub returns : goal.returns
 returns c =
     let t = c.mask.ensures in

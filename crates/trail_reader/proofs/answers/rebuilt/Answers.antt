@@ -1,18 +1,19 @@
 -- `answers::rebuilt` meets its contract: v's record, the records behind it, and the place. Assumes nothing.
 use mathlib.Core.List.{List, [], ◌∷◌}
-use mathlib.Core.Path.{◌≡◌, refl, sym, ap, ◌∙◌}
+use mathlib.Core.Path.{◌≡◌, sym, ap, ◌∙◌}
 use Prim.Native.Nat.{ℕ, ◌-◌, ◌*◌}
 use borrow.Author.Rules.{rules}
-use lib.ListN.{drop, length, replicate, set, take}
+use lib.ListN.{drop, length, set, take}
 use native.Mathlib.Omega.{arith}
-use Rattle.arrays.specs.Rounds.{round_of}
+use Rattle.combinatorics.proofs.EditsOfArrays.{counted}
 use Rattle.grid.proofs.Fields.{indices-few}
-use Rattle.moves.specs.Held.{state_of}
+use Rattle.moves.specs.Held.{state_with}
 use Rattle.place.specs.Problem.{Problem}
 use Rattle.path_laws.proofs.LabelsRead.{came_few}
 use Rattle.trail_records.proofs.Told.{taken_record}
 use Rattle.trail.specs.Record.{start_record}
 use Rattle.trail.specs.Trail.{begins, places_from}
+use Rattle.trail_steps.proofs.Named.{shows-few}
 use Rattle.trail_steps.specs.Reading.{HasRead, problem_by}
 use Rattle.trail_reader.proofs.Begins.{v_read}
 use Rattle.trail_reader.proofs.Rebuilt.{begins_three, computes, few-numbers, first-is, minus_none, not_first}
@@ -29,17 +30,14 @@ tails-tails-requires c = indices-few c.args.g c.requires.can_rebuild.measured.ma
 pub start_position-position-requires : goal.start_position-position-requires
 start_position-position-requires c =
     let w = c.requires.can_rebuild in
-    record { measured = w.measured; first_length = w.first_length; has_start = w.has_start }
-
-pub first_record-requires : goal.first_record-requires
-first_record-requires c = c.start_position-position.ensures.1
+    record { measured = w.measured; first_length = c.args.held.now.first_long; has_start = w.has_start }
 
 pub stands-requires : goal.stands-requires
 stands-requires c =
     let R = c.first_record.ensures in (omega arith, omega (arith, R.long, R.sized.1), R.eight)
 
 abbrev start : After-stands → List ℕ
-start c = let a = c.args in take a.g.indices a.first.now
+start c = let a = c.args in take a.g.indices a.held.now.first
 
 abbrev problem : After-stands → Problem
 problem c = problem_by c.args.g (start c)
@@ -55,22 +53,21 @@ told c =
     ∙ first-is (problem c) trail position.result position.ensures.0 in
     c.stands.ensures ∙ ap (λ (r : List ℕ). begins r trail) is
 
--- with v's position in its mark the arrays hold {v}
+-- with v's position in its mark {v} is held
 held : (c : After-stands)
     → let a = c.args in
-    let marks = set (replicate 16 0) 0 (c.start_position-position.result * 256) in
+    let marks = set a.held.now.marks 0 (c.start_position-position.result * 256) in
     HasRead a.g (start c) c.tails-tails.result (start c ∷ [])
-    (state_of (round_of a.previous.now a.next.now a.sizes.now) a.first.now (replicate 16 0)
-    (replicate 16 0) marks c.begin-s.result)
+    (state_with a.round.now a.held.now.first a.held.now.coefficients a.held.now.order marks c.begin-s.result)
 held c =
     let a = c.args in
     let w = c.requires.can_rebuild in
     let begun = c.begin-s in
     let tails = c.tails-tails in
     let position = c.start_position-position in
-    v_read a.g w.measured.made a.first.now w.has_start a.previous.now a.next.now a.sizes.now
-    (replicate 16 0) w.is_round w.first_length begun.result begun.ensures tails.result tails.ensures
-    position.result position.ensures.0
+    rw (w.no_coefficients, w.no_marks)
+    (v_read a.g w.measured.made a.held.now.first w.has_start a.round.now w.is_round a.held.now.order
+    a.held.now.first_long begun.result begun.ensures tails.result tails.ensures position.result position.ensures.0)
 
 pub returns-then-not-stands : goal.returns-then-not-stands
 returns-then-not-stands c =
@@ -80,18 +77,6 @@ returns-then-not-stands c =
     reads_17 a.g (start here) a.trail.now a.number a.points c.refused.result c.refused.ensures
     (not_first (problem here) a.trail.now a.number c.requires.number_nonzero no)
 
-pub overflow_cast-marks : goal.overflow_cast-marks
-overflow_cast-marks c = omega (arith, c.start_position-position.ensures.1)
-
-pub overflow_mul-marks : goal.overflow_mul-marks
-overflow_mul-marks c = omega (arith, c.start_position-position.ensures.1)
-
-pub overflow_sub-number : goal.overflow_sub-number
-overflow_sub-number c = omega (
-  arith,
-  c.requires.number_nonzero,
-)
-
 pub follow-requires : goal.follow-requires
 follow-requires c =
     let here = (goal.at.follow-requires c).After-stands in
@@ -100,9 +85,6 @@ follow-requires c =
     record {
       measured = w.measured;
       below = w.below;
-      each = record { in_order = refl; in_marks = refl };
-      many = rw
-          c.begin-s.ensures.none;
       place = (start here, start here ∷ [], held here);
       low = begins_three (problem here) c.args.trail.now yes;
     }
@@ -125,6 +107,7 @@ placed-requires c =
     let a = c.args in
     let w = c.requires.can_rebuild in
     let few = indices-few a.g w.measured.made in
+    let h = c.follow.new.held in
     let R = c.in-Some.ensures (start here) (start here ∷ []) (held here) in
     let C = computes w.has_start R.shows in (
       record {
@@ -135,7 +118,7 @@ placed-requires c =
         low = omega arith;
         fits = rw minus_none (omega (arith, few-numbers w.has_start R.shows a.g.indices few, long (goal.at.placed-requires c).Start));
       },
-      R.many,
+      counted h.order c.in-Some.reached.status.count h.order_long (omega (arith, R.shows.order_length, shows-few w.has_start R.shows)),
     )
 
 pub returns : goal.returns
@@ -144,12 +127,10 @@ returns c =
     let a = c.args in
     let w = c.requires.can_rebuild in
     let trail = a.trail.now in
-    let n = c.follow.new in
     let yes = sym (told here) ∙ c.if-not-stands.false in
     let R = c.in-Some.ensures (start here) (start here ∷ []) (held here) in
     let there = reads-place (problem here) trail a.number c.requires.number_nonzero yes R.place R.is _ R.brought in
-    reads_by a.g w.measured.made (start here) trail a.number w.has_start R.place a.previous.now
-    a.next.now a.sizes.now n.first n.coefficients n.order n.marks
+    reads_by a.g w.measured.made (start here) trail a.number w.has_start R.place a.round.now c.follow.new.held
     c.in-Some.reached.status _ R.shows a.points c.placed.result
     c.placed.ensures there
 

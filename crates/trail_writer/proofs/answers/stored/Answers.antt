@@ -18,19 +18,6 @@ returns-then-trail-bytes c =
     (omega (arith, (c.requires.end _ _ _ _ _ is).1, c.if-trail-bytes.true)) in
     record { value = rw (is, short); trail_after = rw (is, short) (sym (front-none a.trail.now)) }
 
-pub write_trail-requires : goal.write_trail-requires
-write_trail-requires c =
-    let w = c.requires in
-    let counted = w.end _ _ _ _ _ c.in-Ended.is in
-    record {
-      readable = w.readable;
-      is_round = w.is_round;
-      below = w.below;
-      accepted = w.accepted;
-      ends = counted.0;
-      fits = omega (arith, counted.1, c.if-trail-bytes.false);
-    }
-
 pub returns-in-Spent : goal.returns-in-Spent
 returns-in-Spent c = ⊎_elim
     (λ is. record { value = rw is; trail_after = rw is (sym (front-none _)) })

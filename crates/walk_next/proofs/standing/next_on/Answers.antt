@@ -27,5 +27,5 @@ pub stand-requires : goal.stand-requires
 stand-requires c =
     let a = c.args in
     kept_rightly a.g a.w a.labels.now c.requires.0 c.requires.1 (sym c.is_kept.ensures.0 ∙ c.if-not-is_kept.false)
-    c.is_kept.ensures.1 c.is_kept.ensures.2 (sym c.counts_in_range.ensures ∙ c.if-not-counts_in_range.false)
+    (sym c.counts_in_range.ensures ∙ c.if-not-counts_in_range.false)
     (c.from.result - 1) (omega (arith, c.from.ensures))

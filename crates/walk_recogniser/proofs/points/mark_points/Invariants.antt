@@ -4,4 +4,4 @@ use Rattle.walk_recogniser.proofs.Steps.{Reached}
 use Rattle.walk_recogniser.proofs.points.mark_points.Given as goal
 
 abbrev pub invariant-loop-k : goal.invariant-loop-k
-invariant-loop-k l = Reached l.g l.first l.order l.n l.marks l.steps l.k
+invariant-loop-k l = Reached l.g l.held l.n l.marks l.steps l.k

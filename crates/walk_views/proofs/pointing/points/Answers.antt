@@ -43,7 +43,8 @@ pub first_table_no-number-requires : goal.first_table_no-number-requires
 first_table_no-number-requires c = (is_made (goal.at.first_table_no-number-requires c).Else-made-ne0).0
 
 asked : (c : After-first_table_no-number) → (let a = c.args in
-    first_no (table_questions (table_on (grid (goal.at.After-first_table_no-number c).Else-made-ne0) a.w a.labels.now)) ≡ c.first_table_no-number.result)
+    let here = (goal.at.After-first_table_no-number c).Else-made-ne0 in
+    first_no (table_questions (table_on (grid here) a.w a.labels.now)) ≡ c.first_table_no-number.result)
 asked c =
     let here = (goal.at.After-first_table_no-number c).Else-made-ne0 in
     let a = c.args in
@@ -59,7 +60,9 @@ returns-then-number-ne0 c =
     ∙ ap (λ (G : Grid). points_on G a.w a.labels.now) (is_made here).1
 
 pub points_on-requires : goal.points_on-requires
-points_on-requires c = ((is_made (goal.at.points_on-requires c).Else-made-ne0).0, asked (goal.at.points_on-requires c).After-first_table_no-number ∙ c.if-number-ne0.false)
+points_on-requires c =
+    let at = goal.at.points_on-requires c in
+    ((is_made at.Else-made-ne0).0, asked at.After-first_table_no-number ∙ c.if-number-ne0.false)
 
 pub returns : goal.returns
 returns c =
