@@ -2,7 +2,7 @@
 -- one more point; the first block; what is complete. Assumes nothing.
 use mathlib.Core.Bool.{Bool, true, false, ◌&&◌, ◌||◌}
 use mathlib.Core.List.{List, [], ◌∷◌, map}
-use mathlib.Core.Option.{Option, none, some}
+use mathlib.Core.Option.{Option, some}
 use mathlib.Core.Path.{◌≡◌, refl, sym, ap, ◌∙◌}
 use Prim.Native.Nat.{ℕ, zero, suc, ◌+◌, ◌-◌, ◌≤◌, ◌<◌}
 use borrow.Author.Tests.{lt-ltb}
@@ -35,7 +35,7 @@ use Rattle.path_laws.proofs.Meaning.{index_means}
 use Rattle.positions.specs.Steps.{after_steps, CanTakeSteps}
 use Rattle.check_simplices.specs.Simplices.{first_of, labelled_by}
 use Rattle.check_chains.proofs.ListedPoints.{all-at}
-use Rattle.check_chains.proofs.Nestings.{range_none, range_more}
+use Rattle.check_chains.proofs.Nestings.{range_more}
 use Rattle.checker.specs.Covered.{IsCovered, first_whole, with_label}
 
 -- a search through numbers from k up to n
@@ -69,10 +69,6 @@ pub first_of-blocks : (s : GridStruct) → IsMade s → (set : ℕ) {first : Opt
     → first ≡ first_whole (shape s) set
 first_of-blocks s made set e =
     e ∙ ap (λ (n : ℕ). first_of (filter (whole-block (shape s).sizes set) (up_from 0 n))) (made-blocks s made)
-
-pub first_ends : (q : ℕ → Bool) (k n : ℕ) {first : Option ℕ} → n ≤ k → first ≡ first_of (filter q (up_from k (n - k)))
-    → none ≡ first
-first_ends q k n l e = sym (e ∙ rw (range_none k n l))
 
 -- no steps lead from a point to itself
 at-replicate : (n v k : ℕ) → k < n → at (replicate n v) k ≡ v

@@ -68,7 +68,8 @@ module _ (p : Problem) (w : Point) (room list_room : ℕ) (none : near_refusal p
   same-run given budget = sym (ap (λ (r : Report). r.run) (report_is given budget))
       ∙ (run_is budget (replicate room 0) (length-replicate room 0)).0
 
-  told : (given budget : ℕ) → (report_of p w given room list_room budget).nearest ≡ nearest_in p w given (answer p budget)
+  told : (given budget : ℕ)
+      → (report_of p w given room list_room budget).nearest ≡ nearest_in p w given (answer p budget)
   told given budget = sym (ap (λ (r : Report). r.nearest) (report_is given budget))
 
   case_is : (budget : ℕ) → case_of (answer p budget) ≡ run_answer p room budget

@@ -99,7 +99,8 @@ module _ (p : Problem) (w : Point) (room list_room : ℕ) where
 module _ (p : Problem) (w : Point) (given budget : ℕ) (old list : List ℕ) where
   pub refused : (n : ℕ) → (n ≡ 0 → ⊥) → near_refusal p w (length old) (length list) ≡ n
       → (record { run = Refused n; nearest = None } ≡ report_of p w given (length old) (length list) budget)
-      × (old ≡ near_answer_buffer p w (length list) budget old) × (list ≡ list_buffer p w given (length old) budget list)
+      × (old ≡ near_answer_buffer p w (length list) budget old)
+      × (list ≡ list_buffer p w given (length old) budget list)
   unfolding report_of near_answer_buffer list_buffer
   refused n z e =
       let q : eqb (near_refusal p w (length old) (length list)) 0 ≡ false =

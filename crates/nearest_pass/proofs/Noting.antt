@@ -5,10 +5,10 @@ use mathlib.Core.List.{List, [], ◌∷◌, ◌++◌, append-nil}
 use mathlib.Core.Logic.{⊎_elim}
 use mathlib.Core.Path.{◌≡◌, refl, sym, ap, ◌∙◌, subst}
 use Prim.Native.Nat.{ℕ, suc, ◌-◌, ◌<◌, ◌≤◌}
-use Rattle.std.specs.Prelude.{None, Option, Some}
+use Rattle.std.specs.Prelude.{Option, Some}
 use borrow.Author.Tests.{eq-eqb, le-ltb, leb-true, lt-ltb, ne_eqb}
-use lib.Dec.{eqb, leb}
-use lib.ListN.{length, length-map, length-set, length-take, take}
+use lib.Dec.{leb}
+use lib.ListN.{length, length-map, length-take, take}
 use lib.Seq.{get_or-set_same, get_or-take, take_all}
 use native.Mathlib.Omega.{arith}
 use Rattle.combinatorics.proofs.Basics.{absurd_bool, and_right, before_or_not, false_of, true_or_false}
@@ -47,14 +47,6 @@ use Rattle.nearest_met.specs.Meeting.{tally_after}
 use Rattle.nearest_met.specs.declared.Tally.{Tally}
 use Rattle.nearest_pass.specs.Survey.{some_vertex}
 use Rattle.nearest_met.proofs.Keeping.{kept_more, low, room_for, seen-new, seen-old}
-
-pub list-long : (given : ℕ) (t : Tally) (away : ℕ) (seen list : List ℕ) (came : Option ℕ)
-    → length (list_after given t away seen list came) ≡ length list
-list-long given t away seen list None = refl
-list-long given t away seen list (Some q) =
-    ⊎_elim
-    (λ n. rw n (⊎_elim (λ c. rw c (length-set list t.listed q)) (λ c. rw c) (true_or_false (leb away given))))
-    (λ n. rw n) (true_or_false (eqb (at seen q) 0))
 
 module _ (g : GridStruct) (first table : List ℕ) (ok : Accepted (problem_in g first table)) where
   abbrev p : Problem
@@ -205,7 +197,8 @@ module _ (g : GridStruct) (first table : List ℕ) (ok : Accepted (problem_in g 
 
       first-new : is_in same_point y (points_of_places (take k on_path)) ≡ false
           → is_in same_point y (vertices_of (take k on_path)) ≡ false
-      first-new n = false_of _ (λ m. absurd_bool (sym (firsts_in on_points y (points_of_places (take k on_path)) m) ∙ n))
+      first-new n =
+          false_of _ (λ m. absurd_bool (sym (firsts_in on_points y (points_of_places (take k on_path)) m) ∙ n))
 
       new-seen : is_in same_point y (points_of_places (take k on_path)) ≡ false → at seen (position (shape g) y) ≡ 0
       new-seen n = seen-new (shape g) (grid-accepted ok) w on_w given old room K (on_so_far k) y on-grid (first-new n)
@@ -221,8 +214,8 @@ module _ (g : GridStruct) (first table : List ℕ) (ok : Accepted (problem_in g 
             low (shape g) (grid-accepted ok) w on_w given old room K (on_so_far k) y on-grid,
             (λ z c. ⊎_elim
                 (λ m. absurd (omega (arith, old-seen m)))
-                (λ n. room_for (shape g) (grid-accepted ok) w on_w given old room K (on_so_far k) y on-grid (first-new n)
-                (firsts-distinct on_points (points_of_places (take k on_path))) c)
+                (λ n. room_for (shape g) (grid-accepted ok) w on_w given old room K (on_so_far k) y on-grid
+                (first-new n) (firsts-distinct on_points (points_of_places (take k on_path))) c)
                 (true_or_false (is_in same_point y (points_of_places (take k on_path))))),
           ))
           (λ (r : 6 ≤ s.rule). rw (le-ltb s.rule 6 r) refl)

@@ -132,4 +132,9 @@ returns-in_default c =
     let a = c.args in
     let p = problem (goal.at.returns-in_default c).After-found-1 in
     let G = given (goal.at.returns-in_default c).After-announced-report in
-    let z = none_of p a.w.now a.given (answer p a.budget) (nearest-is (goal.at.returns-in_default c).After-announced-report ∙ c.in_default.is) in record { report = G.0; answer = c.announced-report.ensures.answer_after ∙ G.1; list = sym (front-none a.list.now) ∙ ap (λ (l : List ℕ). front l a.list.now) (sym z) ∙ G.2 }
+    let z = none_of p a.w.now a.given (answer p a.budget)
+    (nearest-is (goal.at.returns-in_default c).After-announced-report ∙ c.in_default.is) in record {
+      report = G.0;
+      answer = c.announced-report.ensures.answer_after ∙ G.1;
+      list = sym (front-none a.list.now) ∙ ap (λ (l : List ℕ). front l a.list.now) (sym z) ∙ G.2;
+    }

@@ -8,17 +8,12 @@ use Rattle.rules.specs.Read.{point_after}
 use Rattle.rules.specs.Moves.{source}
 use Rattle.nearest_met.proofs.away.Goals as goal
 
-pub advance-requires : goal.advance-requires
-advance-requires c =
+pub advance-requires-clause-ready_point : goal.advance-requires-clause-ready_point
+advance-requires-clause-ready_point c =
     let a = c.args in
-    let from = source a.round.now a.s.u in record {
-      indices_below = c.requires.indices_below.0;
-      ready_point = few-ready from a.held.now.order a.held.now.first a.s.count a.s.active
-          (omega (arith, c.requires.indices_below.1.low, first-few a.s.count a.held.now.order)) c.requires.indices_below.1;
-    }
-
-pub distance_of-requires : goal.distance_of-requires
-distance_of-requires c = c.requires.can_measure
+    let can = c.requires.indices_below.1 in
+    few-ready (source a.round.now a.s.u) a.held.now.order a.held.now.first a.s.count a.s.active
+    (omega (arith, can.low, first-few a.s.count a.held.now.order)) can
 
 pub returns : goal.returns
 returns c = λ g C.

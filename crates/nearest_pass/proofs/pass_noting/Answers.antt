@@ -1,6 +1,6 @@
 -- `nearest_pass::pass_noting` meets its contract. Assumes nothing.
 use mathlib.Core.Path.{◌≡◌, sym, ap, ◌∙◌}
-use Prim.Native.Nat.{ℕ, suc}
+use Prim.Native.Nat.{suc}
 use lib.ListN.{length, take}
 use native.Mathlib.Omega.{arith}
 use Rattle.combinatorics.proofs.EditsOfArrays.{counted}
@@ -10,7 +10,6 @@ use Rattle.path_pass.proofs.Visits.{spends}
 use Rattle.path_pass.proofs.Passing.{MovesTo, Place, asks, can_look, counted-on, facet-ends, has_looked, labels-fit}
 use Rattle.path_pass.proofs.Passing.{onward, passes-first, passes_on, place-ends, stands}
 use Rattle.path_pass.specs.Finish.{problem_in}
-use Rattle.grid.proofs.Fields.{indices-few}
 use Rattle.grid_points.specs.Grid.{at as grid_at, position}
 use Rattle.grid.specs.Made.{shape}
 use Rattle.marks.specs.Reading.{table_problem}
@@ -23,7 +22,7 @@ use Rattle.rules.specs.Moves.{State, mark_position, make_move}
 use Rattle.nearest_met.proofs.Keeping.{kept-none}
 use Rattle.nearest_pass.proofs.Noting.{all_met, come-is, computed, kept_met, last-facet, last-place, read-come}
 use Rattle.nearest_pass.proofs.Noting.{read-computed, room_next}
-use Rattle.nearest_pass.specs.Survey.{positions_before, some_vertex}
+use Rattle.nearest_pass.specs.Survey.{some_vertex}
 use Rattle.nearest_met.specs.declared.Tally.{Tally}
 use Rattle.nearest_visited.specs.Nearest.{nearest, positions_within}
 use Rattle.nearest_met.specs.Meeting.{Kept, vertex_come}
@@ -31,12 +30,6 @@ use Rattle.nearest_visited.proofs.Nearest.{grid-accepted}
 use Rattle.nearest_visited.specs.Visited.{vertices_of}
 use Rattle.nearest_pass.proofs.pass_noting.Goals as goal
 use Rattle.nearest_pass.proofs.pass_noting.Goals.{After-came_in-came, After-make_move, In-loop-visited, In_default}
-
-pub tails-tails-requires : goal.tails-tails-requires
-tails-tails-requires c = indices-few c.args.g c.requires.can_pass.readable.made
-
-pub begun-at-requires : goal.begun-at-requires
-begun-at-requires c = indices-few c.args.g c.requires.can_pass.readable.made
 
 pub loop-visited-init : goal.loop-visited-init
 loop-visited-init c =
@@ -77,12 +70,10 @@ place c =
 pub look_up-requires-clause-can_find : goal.look_up-requires-clause-can_find
 look_up-requires-clause-can_find c = can_look (place (goal.at.look_up-requires-clause-can_find c).In-loop-visited)
 
-pub returns-in-Err : goal.returns-in-Err
-returns-in-Err c =
-    rw c.unreported.ensures.0 record {
-      finished = asks (place (goal.at.returns-in-Err c).In-loop-visited) c.in-Err.ensures.0;
-      surveys = (c.unreported.ensures.1, c.loop-visited.invariant.kept.written);
-    }
+pub returns-in-Err-clause-finished : goal.returns-in-Err-clause-finished
+returns-in-Err-clause-finished c =
+    let P = place (goal.at.returns-in-Err-clause-finished c).In-loop-visited in
+    rw c.unreported.ensures.0 (asks P c.in-Err.ensures.0)
 
 told : (c : In_default)
     → let P = place (goal.at.In_default c).In-loop-visited in
@@ -216,18 +207,10 @@ loop-visited-preserved c =
       kept = rw (counted-on (here at)) (met at);
     }
 
-pub returns : goal.returns
-returns c =
+pub returns-clause-finished : goal.returns-clause-finished
+returns-clause-finished c =
     let a = c.args in
     let w = c.requires.can_pass in
     let l = c.loop-visited in
-    let p = problem_in a.g a.held.now.first a.table.now in
-    let all : l.visited ≡ a.budget = omega arith in
-    rw c.unreported-2.ensures.0 record {
-      finished = spends a.g w.readable.made a.held.now.first a.table.now w.accepted _ l.visited l.invariant.passing.here
-          a.budget (omega arith);
-      surveys = (
-        c.unreported-2.ensures.1,
-        l.invariant.kept.written ∙ ap (λ (n : ℕ). front (positions_before p a.w.now a.given n) a.list.now) all,
-      );
-    }
+    rw c.unreported-2.ensures.0 (spends a.g w.readable.made a.held.now.first a.table.now w.accepted _ l.visited
+    l.invariant.passing.here a.budget (omega arith))

@@ -1,5 +1,4 @@
--- `cover::covered` meets its contract. The invariant: the labels and the zeros of the points from k on. The measure:
--- the points left. Assumes nothing.
+-- `cover::covered` meets its contract. The invariant: the labels and the zeros of the points from k on. Assumes nothing.
 use mathlib.Core.Path.{◌≡◌, sym, ◌∙◌}
 use Prim.Native.Nat.{◌+◌, ◌-◌}
 use native.Mathlib.Omega.{arith}
@@ -22,22 +21,6 @@ loop-k-init c = (
       (none_covered (made-accepted c.args.g c.requires.0.has.made).few_indices),
 )
 
-pub overflow_mul-at : goal.overflow_mul-at
-overflow_mul-at c =
-    omega (arith, (is-listed c.requires.0.has (c.loop-k.k - 1) (omega arith)).small)
-
-pub overflow_add-at : goal.overflow_add-at
-overflow_add-at c =
-    omega (arith, (is-listed c.requires.0.has (c.loop-k.k - 1) (omega arith)).small)
-
-pub offset_bounds-numbers-at : goal.offset_bounds-numbers-at
-offset_bounds-numbers-at c =
-    omega (arith, (is-listed c.requires.0.has (c.loop-k.k - 1) (omega arith)).small)
-
-pub slice_bounds-padded-end : goal.slice_bounds-padded-end
-slice_bounds-padded-end c =
-    (is-listed c.requires.0.has (c.loop-k.k - 1) (omega arith)).room
-
 pub padded-y-requires : goal.padded-y-requires
 padded-y-requires c =
     let k = c.loop-k.k - 1 in
@@ -57,9 +40,6 @@ label_at-requires c =
     let is = copied c.args.g made z on _
     (rw (is-listed c.requires.0.has k (omega arith)).part at c.padded-y.ensures) in
     record { made = (made, c.requires.2); labelled = (c.requires.1, rw (copied_point c.args.g made z on _ is) on) }
-
-pub with_label-labelled-requires : goal.with_label-labelled-requires
-with_label-labelled-requires c = c.label_at.ensures.value
 
 pub zeros-zero-requires : goal.zeros-zero-requires
 zeros-zero-requires c =

@@ -1,4 +1,4 @@
--- `cover::first_whole` meets its contract. The invariant: no block before j is whole. The measure: the blocks left.
+-- `cover::first_whole` meets its contract. The invariant: no block before j is whole.
 -- Assumes nothing.
 use mathlib.Core.Path.{◌≡◌, sym, ap, ◌∙◌}
 use Prim.Native.Nat.{◌+◌, ◌-◌}
@@ -8,17 +8,12 @@ use Rattle.grid.proofs.Fields.{blocks-range}
 use Rattle.grid.specs.Made.{shape}
 use Rattle.check_chains.proofs.WholeSets.{is_block}
 use Rattle.checker.proofs.Covering.{whole-block, block-whole, first_of-blocks, first_stops, first_goes}
-use Rattle.checker.proofs.Covering.{first_ends}
 use Rattle.checker.specs.Check.{check_case}
 use Rattle.checker.proofs.cover.first_whole.Goals as goal
 
 pub loop-j-init : goal.loop-j-init
 loop-j-init c = let e : c.args.g.blocks - 0 ≡ c.args.g.blocks = omega arith in
     (omega arith, (blocks-range c.args.g c.requires).1, rw e)
-
-pub overflow_add-first : goal.overflow_add-first
-overflow_add-first c = let i = is_block c.args.g c.requires c.loop-j.j (omega arith) in
-    omega (arith, i.first_is, i.size_is, i.inside, i.few, c.from.ensures, c.from-first.ensures)
 
 pub has_all-requires : goal.has_all-requires
 has_all-requires c = let i = is_block c.args.g c.requires c.loop-j.j (omega arith) in
@@ -51,10 +46,3 @@ loop-j-preserved c =
       first_goes (whole-block (shape s).sizes c.args.set) l.j s.blocks (omega arith) l.invariant.2
           (sym found ∙ c.if-has_all.false),
     )
-
-pub returns : goal.returns
-returns c =
-    let l = c.loop-j in
-    let s = c.args.g in
-    ap check_case (first_of-blocks s c.requires c.args.set
-    (first_ends (whole-block (shape s).sizes c.args.set) l.j s.blocks (omega arith) l.invariant.2))

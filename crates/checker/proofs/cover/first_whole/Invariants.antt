@@ -1,4 +1,4 @@
--- `cover::first_whole` meets its contract. The invariant: no block before j is whole. The measure: the blocks left.
+-- `cover::first_whole` meets its contract. The invariant: no block before j is whole.
 -- Assumes nothing.
 use mathlib.Core.Path.{◌≡◌}
 use Prim.Native.Nat.{◌-◌, ◌≤◌}

@@ -43,6 +43,9 @@ returns c =
     same-position s made y on _ c.position-position.ensures in
     let low = label_inside s made y on labels c.requires.labelled.0.whole in
     let most = leb-true (get_or labels (position (shape s) (take s.indices y)) 0) (num_indices (shape s))
-    (at_all (λ l. leb l (num_indices (shape s))) labels (position (shape s) (take s.indices y)) c.requires.labelled.0.within
-    low) in
-    rw (c.read_at.ensures, byte_read, is) record { value = (refl, omega (arith, most, (made-accepted s made).few_indices)); result_value = refl }
+    (at_all (λ l. leb l (num_indices (shape s))) labels (position (shape s) (take s.indices y))
+    c.requires.labelled.0.within low) in
+    rw (c.read_at.ensures, byte_read, is) record {
+      value = (refl, omega (arith, most, (made-accepted s made).few_indices));
+      result_value = refl;
+    }

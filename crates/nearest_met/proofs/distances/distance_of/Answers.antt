@@ -1,51 +1,12 @@
 -- `nearest_met::distances::distance_of` meets its contract. The invariant: the sum over the indices passed, whichever
 -- grid the weights are of, and that each term is small. Assumes nothing.
-use mathlib.Core.Path.{◌≡◌, refl, ◌∙◌}
+use mathlib.Core.Path.{◌≡◌, ◌∙◌}
 use Prim.Native.Nat.{◌*◌, ◌≤◌}
 use native.Mathlib.Nat.{mul-le-mul}
 use native.Mathlib.Omega.{arith}
 use Rattle.grid_points.specs.Grid.{at}
 use Rattle.nearest_visited.proofs.Distances.{distance-front, distance_turn}
 use Rattle.nearest_met.proofs.distances.distance_of.Goals as goal
-
-pub loop-h-init : goal.loop-h-init
-loop-h-init c = ((λ g C. refl), omega arith)
-
-pub offset_bounds-y-h : goal.offset_bounds-y-h
-offset_bounds-y-h c = omega (arith, c.requires.1.sixteen)
-
-pub bounds-y-h : goal.bounds-y-h
-bounds-y-h c = omega (arith, c.requires.1.sixteen)
-
-pub offset_bounds-w-h : goal.offset_bounds-w-h
-offset_bounds-w-h c = omega (arith, c.requires.1.long)
-
-pub bounds-w-h : goal.bounds-w-h
-bounds-w-h c = omega (arith, c.requires.1.long)
-
-pub offset_bounds-weights-h : goal.offset_bounds-weights-h
-offset_bounds-weights-h c = omega (arith, c.requires.1.sixteen)
-
-pub bounds-weights-h : goal.bounds-weights-h
-bounds-weights-h c = omega (arith, c.requires.1.sixteen)
-
-pub overflow_mul-total : goal.overflow_mul-total
-overflow_mul-total c =
-    let h = c.loop-h.h in
-    let C = c.requires.1 in
-    let m : c.apart.result * at c.args.weights.now h ≤ 65535 * 60000 = mul-le-mul
-    c.apart.ensures.1
-    (C.each.few h (omega (arith, C.indices, c.loop-h-test.true))) in
-    omega arith
-
-pub overflow_add-total : goal.overflow_add-total
-overflow_add-total c =
-    let l = c.loop-h in
-    let C = c.requires.1 in
-    let m : c.apart.result * at c.args.weights.now l.h ≤ 65535 * 60000 = mul-le-mul
-    c.apart.ensures.1
-    (C.each.few l.h (omega (arith, C.indices, c.loop-h-test.true))) in
-    omega (arith, l.invariant.1, c.loop-h-test.true, C.sixteen)
 
 pub loop-h-preserved : goal.loop-h-preserved
 loop-h-preserved c =

@@ -1,6 +1,6 @@
 -- `nearest_met::distances::weights` meets its contract. The invariant: the weights of the indices passed. Assumes
 -- nothing.
-use mathlib.Core.Path.{◌≡◌, refl, ap, ◌∙◌}
+use mathlib.Core.Path.{◌≡◌, ap, ◌∙◌}
 use Prim.Native.Nat.{ℕ, ◌≤◌}
 use lib.ListN.{length-set}
 use native.Mathlib.Omega.{arith}
@@ -11,12 +11,6 @@ use Rattle.grid_points.specs.Grid.{block_of}
 use Rattle.grid.specs.Made.{shape}
 use Rattle.nearest_visited.specs.Distance.{other_divisions}
 use Rattle.nearest_met.proofs.distances.weights.Goals as goal
-
-pub loop-h-init : goal.loop-h-init
-loop-h-init c = ((λ k l. absurd (omega arith)), refl)
-
-pub block_of-requires : goal.block_of-requires
-block_of-requires c = (c.requires, c.loop-h-test.true)
 
 pub others-requires : goal.others-requires
 others-requires c =
