@@ -1,5 +1,5 @@
 // Sets that are nested two by two, and the points whose sets are.
-ghost use Rattle.std.specs.Prelude.{true, map, ◌≡◌, ◌+◌, ◌-◌, ◌≤◌, ◌<◌, length};
+ghost use Rattle.std.specs.Prelude.{true, map, ◌≡◌, ◌+◌, ◌-◌, ◌≤◌, ◌<◌};
 ghost use Rattle.combinatorics.specs.Lists.{all, up_from};
 ghost use Rattle.grid_points.specs.Grid.{at, is_grid_point};
 ghost use Rattle.grid.specs.Made.{shape};

@@ -1,9 +1,9 @@
 -- From where a pass finished to a run's answer: the start in its array is the start, and the points of the last state
 -- are the answer's. Assumes nothing.
-use mathlib.Core.List.{List, []}
-use mathlib.Core.Path.{◌≡◌, refl, sym, ap, ◌∙◌, subst}
+use mathlib.Core.List.{List}
+use mathlib.Core.Path.{◌≡◌, sym, ◌∙◌, subst}
 use Prim.Native.Nat.{ℕ, suc, ◌-◌, ◌*◌, ◌≤◌}
-use lib.ListN.{length, length-map, length-replicate, length-take, replicate, take}
+use lib.ListN.{length, length-map, replicate, take}
 use lib.Seq.{take-length}
 use native.Mathlib.Nat.{mul-le-mul_right}
 use native.Mathlib.Omega.{arith}

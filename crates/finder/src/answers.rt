@@ -4,7 +4,7 @@ ghost use Rattle.combinatorics.specs.Front.{front};
 ghost use Rattle.questions.specs.Questions.{first_no};
 ghost use Rattle.grid_points.specs.Grid.{block_of};
 ghost use Rattle.grid.specs.Made.{IsMade, shape};
-ghost use Rattle.place.specs.Path.{PathAnswer, answer as answer_of};
+ghost use Rattle.place.specs.Path.{answer as answer_of};
 ghost use Rattle.place.specs.Problem.{problem_of};
 ghost use Rattle.marks.specs.Reading.{problem_from};
 ghost use Rattle.finder.specs.Asked.{CanRun, later_run_questions};

@@ -1,6 +1,6 @@
 -- The cases of a move: what it gives where its tests come out one way. Assumes nothing.
 use mathlib.Core.Bool.{Bool, true, false, not, ◌&&◌, cond}
-use mathlib.Core.List.{List, [], map}
+use mathlib.Core.List.{List, map}
 use mathlib.Core.Logic.{◌⊎◌, inr, ⊎_elim}
 use mathlib.Core.Path.{◌≡◌, refl}
 use Prim.Native.Nat.{ℕ, suc, pred, ◌+◌, ◌-◌, ◌≤◌, ◌<◌}
@@ -17,7 +17,7 @@ use Rattle.rules.proofs.FirstMet.{entry}
 use Rattle.rules.specs.Mask.{bit, with_index, without_index}
 use Rattle.moves.specs.Held.{state_of, state_with}
 use Rattle.rules.specs.Ready.{tested_before, ReadyFirst, ReadyLast, ReadyLeave, ReadyGrow, label_in, Ready}
-use Rattle.rules.specs.Moves.{State, After, goes, ends_at_place, ends_at_facet, mark_label, first_outside, source_in}
+use Rattle.rules.specs.Moves.{State, goes, ends_at_place, ends_at_facet, mark_label, first_outside, source_in}
 use Rattle.rules.specs.declared.Round.{Round}
 use Rattle.rules.specs.Moves.{first_outside_or_zero, is_filled, shifted, changed_before, shrink, joined, grow, leave_first}
 use Rattle.rules.specs.Moves.{leave_middle, leave_last, leave, make_move}

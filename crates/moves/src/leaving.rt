@@ -4,7 +4,7 @@ ghost use Rattle.std.specs.Prelude.{not, ◌&&◌, ◌≡◌, ◌-◌, ◌<◌, 
 ghost use Rattle.grid_points.specs.Grid.{at};
 ghost use Rattle.moves.specs.Held.{CanShrink, IsFirstStep, IsLastStep, IsMiddle, Sound, answered, state_of};
 ghost use Rattle.rules.specs.Mask.{bit};
-ghost use Rattle.rules.specs.Ready.{IndicesBelow, RoundBelow, ReadyFirst, ReadyLast, ReadyLeave};
+ghost use Rattle.rules.specs.Ready.{RoundBelow, ReadyFirst, ReadyLast, ReadyLeave};
 ghost use Rattle.rules.specs.Moves.{leave_first, leave_middle, leave_last, shrink as shrunk, leave as left};
 
 use crate::{Held, Outcome, Status};

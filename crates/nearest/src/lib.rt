@@ -8,7 +8,7 @@ ghost use Rattle.finder.specs.Run.{numbers_of};
 ghost use Rattle.grid_points.specs.Grid.{is_grid_point, num_points};
 ghost use Rattle.questions.specs.Questions.{first_no};
 ghost use Rattle.grid.specs.Made.{IsMade, shape};
-ghost use Rattle.place.specs.Path.{PathAnswer, answer as answer_of};
+ghost use Rattle.place.specs.Path.{answer as answer_of};
 ghost use Rattle.place.specs.Problem.{problem_of};
 ghost use Rattle.marks.specs.Reading.{problem_from};
 ghost use Rattle.nearest_visited.specs.Questions.{point_questions};

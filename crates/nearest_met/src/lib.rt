@@ -8,7 +8,7 @@ ghost use Rattle.grid_points.specs.Grid.{Grid as Shape, at};
 ghost use Rattle.moves.specs.Held.{state_of};
 ghost use Rattle.rules.specs.Read.{CanCompute};
 ghost use Rattle.rules.specs.Ready.{IndicesBelow};
-ghost use Rattle.rules.specs.Moves.{State, mark_position};
+ghost use Rattle.rules.specs.Moves.{mark_position};
 ghost use Rattle.nearest_visited.specs.Distance.{distance};
 ghost use Rattle.nearest_met.specs.Measure.{CanMeasure};
 ghost use Rattle.nearest_met.specs.Meeting.{HasMet, HasRoomToNote, come_by, listed_after, listed_in, noted};

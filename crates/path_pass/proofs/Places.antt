@@ -1,14 +1,11 @@
 -- A place of a pass once its label is looked up: the marks, and what the state that they make is ready for. Assumes
 -- nothing.
-use mathlib.Core.List.{List, []}
-use mathlib.Core.Logic.{⊎_elim}
 use mathlib.Core.Path.{◌≡◌, sym, subst}
 use Prim.Native.Nat.{ℕ, suc, ◌≤◌, ◌<◌}
 use borrow.Author.Tests.{lt-ltb, le-ltb}
-use lib.ListN.{length, take, set}
+use lib.ListN.{set}
 use lib.Seq.{take-set-lt}
 use native.Mathlib.Omega.{arith}
-use Rattle.combinatorics.proofs.Basics.{before_or_not}
 use Rattle.path_pass.specs.Finish.{IsKnown}
 use Rattle.moves.specs.Held.{state_of, state_with}
 use Rattle.moves.specs.declared.holding.Held.{Held}

@@ -1,7 +1,7 @@
 -- What a place of the pass asks and gives: the arrays of the grid, the storing of a mark, the state in which a pass
 -- begins, its outcomes. Assumes nothing.
 use mathlib.Core.Bool.{true, false, ◌&&◌}
-use mathlib.Core.List.{List, [], map}
+use mathlib.Core.List.{List, map}
 use mathlib.Core.Logic.{⊎_elim}
 use mathlib.Core.Path.{◌≡◌, refl, sym, ap, ◌∙◌, subst}
 use Prim.Native.Nat.{ℕ, suc, ◌+◌, ◌-◌, ◌^◌, ◌≤◌, ◌<◌}
@@ -39,13 +39,13 @@ use Rattle.rules.proofs.Follow.{at-exchanged, at_first, at_new, at_next, at_othe
 use Rattle.rules.proofs.Follow.{ends-answer}
 use Rattle.moves.specs.Held.{state_of, state_with}
 use Rattle.rules.specs.Mask.{bit}
-use Rattle.rules.specs.Read.{mark_of, point_in, points_from, read, Falling}
+use Rattle.rules.specs.Read.{mark_of, point_in, points_from, read}
 use Rattle.rules.specs.Ready.{IsRound, RoundBelow}
 use Rattle.rules.specs.Moves.{After, State, mark, goes, ends_at_place, ends_at_facet, make_move}
 use Rattle.rules.specs.declared.Round.{Round}
 use Rattle.moves.specs.declared.holding.Held.{Held}
 use Rattle.moves.specs.declared.Status.{Status}
-use Rattle.marks.specs.Reading.{label_reading, table_problem, CanReadPoint, HasMarks}
+use Rattle.marks.specs.Reading.{label_reading, table_problem}
 use Rattle.marks.specs.declared.Unknown.{Unknown}
 use Rattle.std.proofs.Common.{Ok, Err}
 use Rattle.path_pass.specs.Finish.{Announced, CanVisit, IsBegun, IsKnown, IsUnknown, labels_at, problem_in}

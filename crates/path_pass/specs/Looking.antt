@@ -1,5 +1,5 @@
 -- What the look-up of the point that has come in gives. No promise of a customer's call cites it. Assumes nothing.
-use Rattle.std.specs.Prelude.{◌≡◌, ℕ, Result, Ok, Err}
+use Rattle.std.specs.Prelude.{◌≡◌, Result, Ok, Err}
 use Rattle.marks.specs.declared.Unknown.{Unknown}
 use Rattle.moves.specs.Held.{state_of}
 use Rattle.moves.specs.declared.holding.Held.{Held}

@@ -1,7 +1,6 @@
 // Reads a slip from standard input and writes its sheet to standard output.
 #![tactic(auto)]
 
-ghost use Rattle.std.specs.Prelude.{◌≤◌};
 ghost use Rattle.std.specs.Io.{ReadsAtMost};
 
 use std::io;

@@ -1,8 +1,8 @@
 -- The pass of a game can begin, and where it finished is the run's answer. Assumes nothing.
 use mathlib.Core.List.{List, []}
-use mathlib.Core.Path.{◌≡◌, refl, sym, ap, ◌∙◌, subst}
-use Prim.Native.Nat.{ℕ, suc, ◌-◌, ◌*◌, ◌≤◌, ◌<◌}
-use lib.ListN.{length, length-map, length-replicate, length-take, replicate, take}
+use mathlib.Core.Path.{◌≡◌, sym, ap, ◌∙◌, subst}
+use Prim.Native.Nat.{ℕ, suc, ◌-◌, ◌*◌, ◌≤◌}
+use lib.ListN.{length, length-map, replicate, take}
 use lib.Seq.{take-length}
 use native.Mathlib.Nat.{mul-le-mul_right}
 use native.Mathlib.Omega.{arith}
@@ -20,7 +20,7 @@ use Rattle.grid.proofs.Fields.{made-indices}
 use Rattle.grid.specs.Made.{grid_of, shape}
 use Rattle.grid.specs.declared.Grid.{Grid as GridStruct}
 use Rattle.grid_points.proofs.Points.{point-long}
-use Rattle.grid_points.specs.Grid.{Grid, at, block_of, dimension, lent, next, num_indices, previous, size}
+use Rattle.grid_points.specs.Grid.{Grid, dimension, lent, next, num_indices, previous, size}
 use Rattle.solve_pass.specs.Asked.{CanPassGame}
 use Rattle.game_weighed.specs.Levels.{Rests}
 use Rattle.moves.specs.Held.{state_of}

@@ -1,9 +1,9 @@
 -- The point that has just come in, computed by its steps, and its label stored. Assumes nothing.
-use mathlib.Core.List.{List, []}
+use mathlib.Core.List.{List}
 use mathlib.Core.Path.{◌≡◌, sym, ap, ◌∙◌}
 use Prim.Native.Nat.{ℕ, suc, ◌≤◌, ◌<◌}
 use borrow.Author.Tests.{le-ltb, lt-ltb}
-use lib.ListN.{length, set, take}
+use lib.ListN.{set, take}
 use lib.Seq.{take-set-lt}
 use native.Mathlib.Omega.{arith}
 use Rattle.combinatorics.proofs.EditsOfArrays.{first-few}
@@ -14,7 +14,7 @@ use Rattle.game_losses.specs.Game.{game_label}
 use Rattle.moves.specs.Held.{state_of, state_with}
 use Rattle.moves.specs.declared.holding.Held.{Held}
 use Rattle.moves.specs.declared.Status.{Status}
-use Rattle.rules.proofs.PointsAfter.{after_taken, few-ready, length-after}
+use Rattle.rules.proofs.PointsAfter.{after_taken, few-ready}
 use Rattle.rules.specs.Read.{point_after, point_on, CanCompute, ReadyPoint}
 use Rattle.rules.specs.Moves.{State, source, with_mark}
 use Rattle.rules.specs.declared.Round.{Round}

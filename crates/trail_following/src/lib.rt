@@ -4,7 +4,6 @@
 
 ghost use Rattle.std.specs.Prelude.{◌≡◌, ◌%◌, ◌≤◌, ◌<◌, get_or, length};
 ghost use Rattle.moves.specs.Held.{state_of};
-ghost use Rattle.rules.specs.Moves.{State};
 ghost use Rattle.trail_steps.specs.Reading.{CanGoOn};
 ghost use Rattle.trail_following.specs.Reached.{ReachesFrom};
 

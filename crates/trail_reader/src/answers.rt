@@ -3,7 +3,6 @@ ghost use Rattle.std.specs.Prelude.{[], ◌≡◌, ◌<◌, length, take};
 ghost use Rattle.moves.specs.Held.{state_of};
 ghost use Rattle.moves.specs.Room.{CanPut};
 ghost use Rattle.place.specs.Problem.{problem_of};
-ghost use Rattle.rules.specs.Moves.{State};
 ghost use Rattle.trail_reader.specs.Begun.{CanLocate, CanReadTrail, CanRebuild, IsLocated, IsPlace, Reads};
 ghost use Rattle.trail_reader.specs.Reading.{read_answer, read_points};
 

@@ -2,12 +2,12 @@
 // public here is for the reader, which shows what it asks.
 #![tactic(auto)]
 
-ghost use Rattle.std.specs.Prelude.{[], map, ◌≡◌, suc, ◌+◌, ◌*◌, ◌≤◌, ◌<◌, drop, get_or, length, take};
+ghost use Rattle.std.specs.Prelude.{map, ◌≡◌, suc, ◌+◌, ◌*◌, ◌≤◌, ◌<◌, drop, get_or, length, take};
 ghost use Rattle.combinatorics.specs.Edits.{found};
 ghost use Rattle.marks.specs.Reading.{CanFind};
 ghost use Rattle.moves.specs.Held.{state_of};
 ghost use Rattle.positions.specs.Binomials.{Measured};
-ghost use Rattle.rules.specs.Moves.{State, mark_position};
+ghost use Rattle.rules.specs.Moves.{mark_position};
 ghost use Rattle.trail_steps.specs.Reading.{CanCompare, bytes_standing, come_position, joining, leaving};
 ghost use Rattle.trail_steps.specs.Reading.{marks_with, way_of};
 ghost use Rattle.trail_steps.specs.Shows.{with_marks};

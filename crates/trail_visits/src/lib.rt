@@ -4,7 +4,6 @@
 
 ghost use Rattle.std.specs.Prelude.{true, ◌≡◌, ℕ, length};
 ghost use Rattle.trail_records.specs.Records.{IsRecord, SameSets, record_from};
-ghost use Rattle.rules.specs.Moves.{State};
 ghost use Rattle.trail_visits.specs.Visited.{CanWrite, HasPositions, record_here, with_record};
 ghost use Rattle.ways.specs.Ways.{CanTell, gone_by, held_marks, way_here};
 

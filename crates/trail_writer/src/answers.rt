@@ -5,7 +5,7 @@ ghost use Rattle.finder.specs.Asked.{CanRun};
 ghost use Rattle.finder.specs.Run.{numbers_of};
 ghost use Rattle.finder.specs.declared.answers.RunAnswer.TheVariants.{Refused};
 ghost use Rattle.marks.specs.Reading.{problem_from};
-ghost use Rattle.place.specs.Path.{PathAnswer, answer as answer_of};
+ghost use Rattle.place.specs.Path.{answer as answer_of};
 ghost use Rattle.place.specs.Problem.{problem_of};
 ghost use Rattle.trail_writer.specs.Again.{CanWriteTrail, HasCounted, has_room, stored_at};
 ghost use Rattle.trail_writer.specs.Writing.{announces, trail_answer_buffer, trail_answer, trail_buffer};

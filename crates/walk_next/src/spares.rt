@@ -1,5 +1,5 @@
 // The point of a place whose label the others do not need.
-ghost use Rattle.std.specs.Prelude.{◌≡◌, ◌≤◌, ◌<◌, length};
+ghost use Rattle.std.specs.Prelude.{◌≡◌, ◌≤◌, length};
 ghost use Rattle.walk_next.specs.Spares.{is_new, LabelsLow, SparesOf};
 
 use crate::Spared;

@@ -1,5 +1,5 @@
 // What changes from a place to the next, by the marks of their points and the masks of T and U.
-ghost use Rattle.std.specs.Prelude.{◌≡◌, suc, ◌≤◌, ◌<◌, eqb, length, take};
+ghost use Rattle.std.specs.Prelude.{◌≡◌, suc, ◌≤◌, eqb, length, take};
 ghost use Rattle.combinatorics.specs.Lists.{is_in};
 ghost use Rattle.walk_preview.specs.Changes.{change_for, index_from, other_in};
 

@@ -1,9 +1,9 @@
 -- `look_up` meets its contract: after rules 6 and 7 nothing is read, and else the mark that is looked up is stored.
 -- Assumes nothing.
-use Rattle.std.proofs.Common.{refl, sym, ◌∙◌, arith}
+use Rattle.std.proofs.Common.{sym, ◌∙◌, arith}
 use Rattle.marks.specs.Reading.{table_problem}
 use Rattle.path_pass.proofs.Places.{looked_none, looked_some}
-use Rattle.path_pass.proofs.Visits.{marked-known, unknown-zero}
+use Rattle.path_pass.proofs.Visits.{marked-known}
 use Rattle.path_pass.proofs.look_up.Goals as goal
 
 pub returns-in_ok-mark : goal.returns-in_ok-mark

@@ -1,5 +1,5 @@
 -- `label_in` meets its contract: the steps of the order lead to the point, whose label is worked out. Assumes nothing.
-use Rattle.std.proofs.Common.{◌≡◌, sym, ap, ◌∙◌, rules, arith}
+use Rattle.std.proofs.Common.{sym, ap, ◌∙◌, arith}
 use lib.Seq.{length-take-le}
 use Rattle.grid_points.specs.Grid.{lent}
 use Rattle.solve_pass.proofs.Points.{point-is, ready-steps}

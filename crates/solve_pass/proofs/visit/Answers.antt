@@ -1,6 +1,6 @@
 -- `visit` meets its contract: after rules 6 and 7 the move is made at once, and else a label is stored first. Assumes
 -- nothing.
-use Rattle.std.proofs.Common.{◌≡◌, sym, ap, ◌∙◌, subst, arith}
+use Rattle.std.proofs.Common.{◌≡◌, sym, ap, ◌∙◌, subst}
 use Rattle.grid_points.specs.Grid.{lent}
 use Rattle.solve_pass.proofs.Points.{labelled-none, labelled-some}
 use Rattle.solve_pass.specs.Bare.{labelled}

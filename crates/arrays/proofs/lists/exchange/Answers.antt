@@ -1,5 +1,5 @@
 -- `lists::exchange` meets its contract. Assumes nothing.
-use Rattle.std.proofs.Common.{◌≡◌, sym, ◌∙◌, ◌+◌, arith}
+use Rattle.std.proofs.Common.{sym, ◌∙◌, ◌+◌, arith}
 use Rattle.std.proofs.lemmas.List.Edits.{swap_is}
 use native.Mathlib.Numerals.{add-one}
 use Rattle.combinatorics.proofs.EditsOfArrays.{swap_two}

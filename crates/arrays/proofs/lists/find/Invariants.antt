@@ -2,7 +2,7 @@
 -- finds. Assumes nothing.
 use mathlib.Core.List.{map}
 use mathlib.Core.Path.{◌≡◌}
-use Prim.Native.Nat.{◌-◌, ◌≤◌}
+use Prim.Native.Nat.{◌-◌}
 use lib.ListN.{take, drop}
 use Rattle.combinatorics.specs.Edits.{found_from, found}
 use Rattle.rules.specs.Moves.{mark_label}

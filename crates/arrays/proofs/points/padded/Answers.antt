@@ -1,5 +1,5 @@
 -- `points::padded` meets its contract. Assumes nothing.
-use Rattle.std.proofs.Common.{◌≡◌, refl, sym, ◌∙◌, arith}
+use Rattle.std.proofs.Common.{refl, arith}
 use lib.Seq.{length-take-le}
 use Rattle.combinatorics.specs.Front.{front}
 use Rattle.arrays.proofs.points.padded.Goals as goal

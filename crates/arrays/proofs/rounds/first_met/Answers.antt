@@ -1,5 +1,5 @@
 -- `rounds::first_met` meets its contract. Assumes nothing.
-use Rattle.std.proofs.Common.{◌≡◌, refl, sym, ◌∙◌, ◌+◌, ◌-◌, arith}
+use Rattle.std.proofs.Common.{◌≡◌, sym, ◌∙◌, ◌+◌, ◌-◌, arith}
 use Rattle.grid_points.specs.Grid.{at}
 use Rattle.rules.proofs.FirstMet.{below, meets_begun, meets_here, meets_onward, meets_spent}
 use Rattle.arrays.proofs.rounds.first_met.Goals as goal

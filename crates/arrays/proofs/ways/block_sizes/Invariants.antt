@@ -1,7 +1,7 @@
 -- `ways::block_sizes` meets its contract. The invariant: the sizes of the blocks of the indices below h are there. The
 -- measure: the indices left. Assumes nothing.
 use mathlib.Core.Path.{◌≡◌}
-use Prim.Native.Nat.{ℕ, ◌-◌, ◌≤◌, ◌<◌}
+use Prim.Native.Nat.{ℕ, ◌-◌, ◌<◌}
 use lib.ListN.{length}
 use Rattle.grid_points.specs.Grid.{at}
 use Rattle.arrays.proofs.ways.block_sizes.Given as goal

@@ -1,5 +1,5 @@
 -- `ways::round_of` meets its contract. Assumes nothing.
-use Rattle.std.proofs.Common.{◌≡◌, refl, arith}
+use Rattle.std.proofs.Common.{refl, arith}
 use Rattle.grid.proofs.Fields.{following_low, made-indices, made-next, made-previous, previous-low}
 use Rattle.arrays.proofs.ways.round_of.Goals as goal
 

@@ -1,5 +1,4 @@
 -- `check_calls::check_number` meets its contract: each case has its number. Assumes nothing.
-use borrow.Author.Rules.{rules}
 use Rattle.exports.proofs.check_calls.check_number.Goals as goal
 
 pub returns-in-Yes : goal.returns-in-Yes

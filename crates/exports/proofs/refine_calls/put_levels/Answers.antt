@@ -8,7 +8,6 @@ use Rattle.combinatorics.proofs.Fronts.{front-none}
 use Rattle.combinatorics.specs.Front.{front}
 use Rattle.exports.proofs.Facts.{facts_part, facts_put, facts_room, facts_of}
 use Rattle.exports.proofs.refine_calls.put_levels.Goals as goal
-use Rattle.exports.proofs.refine_calls.put_levels.Goals.{After-put_level}
 
 pub loop-i-init : goal.loop-i-init
 loop-i-init c = sym (front-none c.args.facts.now)

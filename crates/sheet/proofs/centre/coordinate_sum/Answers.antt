@@ -2,7 +2,6 @@
 use native.Mathlib.Omega.{arith}
 use Rattle.sheet_lines.proofs.Rows.{total_more}
 use Rattle.sheet.proofs.centre.coordinate_sum.Goals as goal
-use Rattle.sheet.proofs.centre.coordinate_sum.Goals.{In-loop-k}
 
 pub loop-k-preserved : goal.loop-k-preserved
 loop-k-preserved c =

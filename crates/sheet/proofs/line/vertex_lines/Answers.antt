@@ -7,7 +7,6 @@ use native.Mathlib.Omega.{arith}
 use Rattle.text.proofs.Parts.{part_empty, part_join}
 use Rattle.sheet_lines.proofs.Rows.{flat_map_more, rows_more}
 use Rattle.sheet.proofs.line.vertex_lines.Goals as goal
-use Rattle.sheet.proofs.line.vertex_lines.Goals.{In-loop-k}
 
 pub loop-k-init : goal.loop-k-init
 unfolding flat_map

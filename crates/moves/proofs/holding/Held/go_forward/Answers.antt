@@ -1,5 +1,4 @@
 -- `Held::go_forward` meets its contract: the arrays stay as long as they are. Assumes nothing.
-use Rattle.std.proofs.Common.{arith}
 use lib.ListN.{length-set}
 use Rattle.moves.proofs.holding.Held.go_forward.Goals as goal
 

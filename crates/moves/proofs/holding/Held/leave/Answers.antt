@@ -1,5 +1,5 @@
 -- `Held::leave` meets its contract: the first, a middle or the last point. Assumes nothing.
-use Rattle.std.proofs.Common.{ap, ◌∙◌, arith}
+use Rattle.std.proofs.Common.{ap, ◌∙◌}
 use Rattle.combinatorics.proofs.EditsOfArrays.{counted}
 use Rattle.moves.specs.Held.{state_of}
 use Rattle.moves.proofs.Cases.{is-first, is_middle, is_last}

@@ -3,7 +3,7 @@ use Rattle.std.proofs.Common.{◌≡◌, refl, sym, ap, ◌∙◌, length, take,
 use lib.Seq.{length-take-le}
 use Rattle.moves.specs.Held.{state_of}
 use Rattle.rules.specs.Moves.{State, goes}
-use Rattle.moves.proofs.Cases.{same-state, first-ready, facet-end, U-gains, first-leaves}
+use Rattle.moves.proofs.Cases.{same-state, facet-end, U-gains, first-leaves}
 use Rattle.moves.proofs.holding.Held.leave_first_at.Goals as goal
 use Rattle.moves.proofs.holding.Held.leave_first_at.Goals.{Start}
 

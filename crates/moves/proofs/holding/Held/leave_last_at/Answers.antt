@@ -1,10 +1,10 @@
 -- `Held::leave_last_at` meets its contract: rule 6, 7, 3 or 1. Assumes nothing.
-use Rattle.std.proofs.Common.{Bool, true, false, cond, ◌≡◌, refl, sym, ◌∙◌, ℕ, length, take, arith}
+use Rattle.std.proofs.Common.{true, false, cond, ◌≡◌, refl, sym, ◌∙◌, length, take, arith}
 use lib.Seq.{length-take-le}
 use Rattle.moves.specs.Held.{state_of}
 use Rattle.rules.specs.Mask.{bit}
 use Rattle.rules.specs.Moves.{State}
-use Rattle.moves.proofs.Cases.{T-loses, backward, last-leaves, last-ready, last-to-U, same-state}
+use Rattle.moves.proofs.Cases.{T-loses, last-leaves, last-to-U, same-state}
 use Rattle.moves.proofs.holding.Held.leave_last_at.Goals as goal
 use Rattle.moves.proofs.holding.Held.leave_last_at.Goals.{Start, then-has, else-has}
 

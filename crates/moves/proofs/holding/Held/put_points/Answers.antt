@@ -1,5 +1,5 @@
 -- `Held::put_points` meets its contract. Assumes nothing.
-use Rattle.std.proofs.Common.{List, ◌≡◌, refl, sym, ap, ◌∙◌, ℕ, suc, ◌+◌, ◌-◌, ◌*◌, ◌≤◌, length, take, arith}
+use Rattle.std.proofs.Common.{List, ◌≡◌, refl, sym, ap, ◌∙◌, ℕ, suc, ◌-◌, ◌*◌, ◌≤◌, length, take, arith}
 use lib.Seq.{length-take-le}
 use Rattle.combinatorics.proofs.Fronts.{front-none}
 use Rattle.combinatorics.specs.Front.{front}

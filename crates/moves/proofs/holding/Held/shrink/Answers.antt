@@ -1,5 +1,5 @@
 -- `Held::shrink` meets its contract, by rule 6 and by rule 7. Assumes nothing.
-use Rattle.std.proofs.Common.{Bool, ◌≡◌, ◌∙◌, sym, refl, cond, ℕ}
+use Rattle.std.proofs.Common.{◌≡◌, ◌∙◌, cond}
 use Rattle.rules.specs.Mask.{with_index}
 use Rattle.moves.proofs.Cases.{shrinks}
 use Rattle.moves.proofs.holding.Held.shrink.Goals as goal
