@@ -14,7 +14,7 @@ use Rattle.combinatorics.proofs.Lists.{all_in, in_map, map_in, on_numbers}
 use Rattle.combinatorics.specs.Lists.{all, first_or, is_in}
 use Rattle.combinatorics.specs.Front.{padded}
 use Rattle.grid_points.proofs.Accepted.{accepted as accepted-grid}
-use Rattle.grid.proofs.Fields.{indices-few, made-indices}
+use Rattle.grid.proofs.Fields.{made-indices}
 use Rattle.grid_points.proofs.Points.{on_points}
 use Rattle.grid_points.specs.Grid.{Grid, Point, at, is_grid_point, num_indices, position, same_point}
 use Rattle.grid.specs.Made.{IsMade, shape}
@@ -120,9 +120,6 @@ module _ {g : GridStruct} {w : WalkStruct} {labels : List ℕ} {next : Place} (m
   there-place : is_place p there ≡ true
   there-place = passes.1.joins.to
 
-  m_few : g.indices ≤ 16
-  m_few = indices-few g made
-
   -- the present place is kept
   holds : holds_place (shape g) w.present ≡ true
   holds =
@@ -137,9 +134,6 @@ module _ {g : GridStruct} {w : WalkStruct} {labels : List ℕ} {next : Place} (m
 
   pub some-present : 1 ≤ w.present.count
   some-present = held_so.0
-
-  take-few : (n : ℕ) (l : List ℕ) → n ≤ 16 → length (take n l) ≤ 16
-  take-few n l h = omega (arith, length-take n l)
 
   pub place-present : (n : ℕ) → n ≡ pred w.present.count → CanPlace g w n
   place-present n e = record {

@@ -30,8 +30,8 @@ pub struct Sets {
 }
 
 // Recognises the first n + 1 points of the first point and the order that are held, and puts the first point's
-// coefficients and the positions of all points, in marks without labels, beside them. Where they are none, what stands
-// there is free: some of these numbers may, and a caller that is told None reads neither.
+// coefficients and the positions of all points, in marks without labels, beside them. Where they are none, the
+// coefficients may stand there already, and a caller that is told None reads neither.
 pub fn recognise(
     g: Grid,
     binomials: &[u16; ENTRIES],

@@ -1,5 +1,5 @@
 -- `placing::placed` meets its contract. Assumes nothing.
-use mathlib.Core.Path.{refl, subst}
+use mathlib.Core.Path.{subst}
 use lib.ListN.{take}
 use Rattle.grid.proofs.Fields.{indices-few, made-indices}
 use Rattle.grid_points.specs.Grid.{num_indices}
@@ -9,9 +9,6 @@ use Rattle.walk_recogniser.specs.Kept.{Recognised}
 use Rattle.walk_recogniser.specs.Pieces.{bare_mark, started_on}
 use Prim.Native.Nat.{ℕ}
 use Rattle.walk_places.proofs.placing.placed.Goals as goal
-
-pub binomials-requires : goal.binomials-requires
-binomials-requires c = (c.requires.made, refl)
 
 pub shared_ref_as_front-recognise : goal.shared_ref_as_front-recognise
 shared_ref_as_front-recognise c = indices-few c.args.g c.requires.made
