@@ -108,8 +108,8 @@ module _ {g : GridStruct} {binomials start : List ℕ} {round : Round} {n : ℕ}
         rw (sym (at-o w.0 jl) ∙ w.2) at (S.has w.0 jl))
 
     pub in_U : (k : ℕ) → k < 16 → bit v k ≡ is_in eqb k u
-    in_U k l = S.rest k l ∙ rw (Z k l, in_T k l) (both (ltb k g.indices && eqb (at held.first k) 0 && not (is_in eqb k o))
-        (is_in eqb k u)
+    in_U k l = S.rest k l ∙ rw (Z k l, in_T k l)
+        (both (ltb k g.indices && eqb (at held.first k) 0 && not (is_in eqb k o)) (is_in eqb k u)
         (λ e. let a = ltb k g.indices in let b = eqb (at held.first k) 0 in let d = not (is_in eqb k o) in
         let ab = and_left (a && b) d e in
         let kl = ltb-true k g.indices (and_left a b ab) in

@@ -27,8 +27,8 @@ pub record CanRecognise (g : GridStruct) (binomials start : List ℕ) (round : R
 abbrev pub StaysAt : Held → Held → Type 0
 StaysAt old new = (new.first ≡ old.first) × (new.order ≡ old.order)
 
--- T and U are the masks' sets, the coefficients held are the first point's, and each point has its mark: `bare_mark`, or
--- `mark_of` once its label is read
+-- T and U are the masks' sets, the coefficients held are the first point's, and each point has its mark: `bare_mark`,
+-- or `mark_of` once its label is read
 pub record Seen (p : Problem) (marking : Point → ℕ) (y : Point) (o : List ℕ) (held : Held) (t u : ℕ) : Type 0 where
   pub kept : is_kept p y o ≡ true
   pub in_t : (k : ℕ) → k < 16 → bit t k ≡ is_in eqb k o

@@ -41,6 +41,6 @@ returns-in_err-held-clause-recognised c =
 
 pub returns-clause-recognised : goal.returns-clause-recognised
 returns-clause-recognised c =
-    all_seen c.requires _ c.in_ok-sets.ensures c.zeros.ensures
-    (c.is_free.ensures.yes c.if-not-is_free.false) (on-grid (goal.at.returns-clause-recognised c).Else-not-is_grid_point)
-    c.coefficients-held.ensures.0 c.coefficients-held.ensures.1 refl c.in_ok-held.ensures
+    let list = c.coefficients-held.ensures in
+    all_seen c.requires _ c.in_ok-sets.ensures c.zeros.ensures (c.is_free.ensures.yes c.if-not-is_free.false)
+    (on-grid (goal.at.returns-clause-recognised c).Else-not-is_grid_point) list.0 list.1 refl c.in_ok-held.ensures
