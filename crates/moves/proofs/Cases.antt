@@ -7,16 +7,14 @@ use Prim.Native.Nat.{ℕ, suc, pred, ◌+◌, ◌-◌, ◌≤◌, ◌<◌}
 use native.Mathlib.Numerals.{add-one}
 use native.Mathlib.Omega.{arith}
 use borrow.Author.Tests.{eqb-true, eq-eqb, ne_eqb, lt-ltb, le-ltb}
-use lib.Dec.{eqb, ltb}
+use lib.Dec.{eqb}
 use lib.ListN.{length, take}
-use Rattle.combinatorics.proofs.Basics.{true_or_false, false_of, and_left, and_right}
+use Rattle.combinatorics.proofs.Basics.{false_of, and_left, and_right}
 use Rattle.combinatorics.specs.Edits.{remove_at, swap_at, rotate_left, rotate_right, found}
 use Rattle.grid_points.specs.Grid.{at}
-use Rattle.combinatorics.proofs.EditsOfArrays.{counted}
-use Rattle.rules.proofs.FirstMet.{entry}
 use Rattle.rules.specs.Mask.{bit, with_index, without_index}
 use Rattle.moves.specs.Held.{state_of, state_with}
-use Rattle.rules.specs.Ready.{tested_before, ReadyFirst, ReadyLast, ReadyLeave, ReadyGrow, label_in, Ready}
+use Rattle.rules.specs.Ready.{ReadyLeave, label_in, Ready}
 use Rattle.rules.specs.Moves.{State, goes, ends_at_place, ends_at_facet, mark_label, first_outside, source_in}
 use Rattle.rules.specs.declared.Round.{Round}
 use Rattle.rules.specs.Moves.{first_outside_or_zero, is_filled, shifted, changed_before, shrink, joined, grow, leave_first}
@@ -93,11 +91,6 @@ module _ (s : State) (h : ℕ) where
   joins-from-outside i e f g = rw (e, f, g)
 
 module _ (s : State) {h b : ℕ} (at_h : h ≡ at s.order 0) (at_b : b ≡ source_in s h) where
-  pub first-ready : ReadyFirst s
-      → (at s.first h < 65535) × (1 ≤ at s.first b)
-      × (tested_before (λ x. ltb x 65535) suc s.round.previous b 16 h s.coefficients ≡ true)
-  first-ready r = rw (at_b, at_h) (r.fits, r.positive, r.raised)
-
   -- the second point is the new first
   abbrev pub forward : ℕ → ℕ → State
   forward U rule = record {
@@ -162,14 +155,6 @@ module _ (s : State) {n h : ℕ} (at_n : n ≡ length s.order) (at_h : h ≡ at 
   T-loses e f = rw (← at_n, ← at_h, ne_eqb (at s.first h) 0 e, f)
 
   module _ {b : ℕ} (at_b : b ≡ first_outside_or_zero s.round s.U s.coefficients h) where
-    pub last-ready : ReadyLast s h → (at s.first h ≡ 0 → ⊥) → (at s.coefficients h ≡ 0 → ⊥)
-        → (at s.first b < 65535)
-        × (tested_before (λ x. ltb 0 x) pred s.round.previous b 16 h s.coefficients ≡ true)
-    last-ready r e f =
-        let p : 0 < at s.first h = omega arith in
-        let q : 0 < at s.coefficients h = omega arith in
-        rw at_b (r.fits p q, r.lowered p q)
-
     -- a new first point comes in
     abbrev pub backward : ℕ → State
     backward rule = record {
@@ -223,31 +208,6 @@ module _ (s : State) where
         → Leaving s i
     other-leaving i e f = inr (read, rw (← at_label, ← at_h) e, rw (← at_label) f)
 
-    pub join_ready : bit s.T h ≡ false → Ready s → ReadyGrow s h
-    join_ready f r =
-        let ready : bit s.T h ≡ false → ReadyGrow s h = rw (← at_label, ← at_h) at (r.grows read) in
-        ready f
-
     pub label-joins : bit s.T h ≡ false → grow s h ≡ make_move s
     unfolding make_move
     label-joins e = rw (lt-ltb s.rule 6 read, ← at_label, ← at_h, e)
-
--- the mark of the point that came in, among those held
-module _ (round : Round) (held : Held) (s : Status) (r : Ready (state_of round held s)) (read : s.rule < 6) where
-  few : length (take s.count held.order) ≤ 15
-  few = ⊎_elim
-      (λ e. (r.leaves read e).few)
-      (λ e. (r.grows read e).few)
-      (true_or_false (bit s.t (mark_label (at (take (suc s.count) held.marks) s.active) - 1)))
-
-  pub count_low : s.count ≤ 15
-  count_low = omega (arith, few, counted held.order s.count held.order_long few)
-
-  pub active-low : s.active ≤ s.count
-  active-low = omega (arith, r.active, counted held.order s.count held.order_long few)
-
-  pub mark-held : at held.marks s.active ≡ at (take (suc s.count) held.marks) s.active
-  mark-held = entry held.marks (suc s.count) s.active (at held.marks s.active) (omega (arith, active-low)) refl
-
-  pub label-low : (1 ≤ mark_label (at held.marks s.active)) × (mark_label (at held.marks s.active) ≤ 16)
-  label-low = rw mark-held (r.label read)

@@ -16,10 +16,10 @@ use Rattle.combinatorics.proofs.Ranges.{in_up_from, up_from_in}
 use Rattle.combinatorics.specs.Lists.{is_in, sum, up_from}
 use Rattle.end_kinds.specs.declared.Kind.{Kind}
 use Rattle.end_kinds.specs.declared.Kind.TheVariants.{Facet as facet_end, Place as place_end}
-use Rattle.grid.proofs.Fields.{following_low, made-blocks, made-indices, made-next, made-previous, previous-low}
+use Rattle.grid.proofs.Fields.{made-blocks, made-indices}
 use Rattle.grid_points.proofs.Points.{on_points}
 use Rattle.grid_points.proofs.Terms.{bound-fits}
-use Rattle.grid_points.specs.Grid.{Point, at, block_of, num_indices, position, same_point, size}
+use Rattle.grid_points.specs.Grid.{Point, at, num_indices, position, same_point, size}
 use Rattle.grid.specs.Made.{IsMade, shape}
 use Rattle.grid.specs.declared.Grid.{Grid as GridStruct}
 use Rattle.positions.proofs.Positions.{map-front}
@@ -46,25 +46,8 @@ use Rattle.rules.specs.declared.Round.{Round}
 use Rattle.moves.specs.declared.holding.Held.{Held}
 use Rattle.moves.specs.declared.Status.{Status}
 use Rattle.marks.specs.Reading.{label_reading, table_problem}
-use Rattle.marks.specs.declared.Unknown.{Unknown}
-use Rattle.std.proofs.Common.{Ok, Err}
+use Rattle.std.proofs.Common.{Ok}
 use Rattle.path_pass.specs.Finish.{Announced, CanVisit, IsBegun, IsKnown, IsUnknown, labels_at, problem_in}
-
--- the ways round the blocks that a made grid keeps
-module _ (g : GridStruct) (made : IsMade g) (sizes : List ℕ) where
-  abbrev pub round_on : Round
-  round_on = record { previous = g.previous; next = g.next; sizes = sizes }
-
-  pub round-below : RoundBelow round_on
-  round-below = record { backward = λ h l. previous-low g made h; forward = λ h l. following_low g made h }
-
-  pub is-round : ((h : ℕ) → h < g.indices → at sizes h ≡ size (shape g) (block_of (shape g) h))
-      → IsRound (shape g) round_on
-  is-round at-sizes = record {
-    backward = λ h l. made-previous g made h (omega (arith, made-indices g made));
-    forward = λ h l. made-next g made h (omega (arith, made-indices g made));
-    size = λ h l. at-sizes h (omega (arith, made-indices g made));
-  }
 
 -- a mark is that of a label that is known, and else the label is 0
 module _ (p : Problem) (y : Point) where
@@ -73,12 +56,6 @@ module _ (p : Problem) (y : Point) where
       (λ (z : label p y ≡ 0).
       absurd (let f = rw (eq-eqb (label p y) 0 z) at e in let w : ◌≡◌ {A = ℕ} 0 1 = cc in omega arith))
       (λ n. let f = rw (ne_eqb (label p y) 0 n) at e in (omega (arith, n), cc))
-      (same_or (label p y) 0)
-
-  pub unknown-zero : {u : Unknown} → label_reading p y ≡ Err u → (label p y ≡ 0) × (u.position ≡ position p.grid y)
-  unknown-zero {u} e = ⊎_elim
-      (λ (z : label p y ≡ 0). let f = rw (eq-eqb (label p y) 0 z) at e in (z, cc))
-      (λ n. absurd (let f = rw (ne_eqb (label p y) 0 n) at e in let w : ◌≡◌ {A = ℕ} 0 1 = cc in omega arith))
       (same_or (label p y) 0)
 
 -- the state stands at place number k, from 0, of the path: of the path over the table with its gaps filled, as far as

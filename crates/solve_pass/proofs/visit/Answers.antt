@@ -21,8 +21,8 @@ worked-out c =
     let g = lent a.sizes.now a.divisions.now in
     elim c.if-s-lt6.branch [
       | then-s-lt6 w ↦ rw w.held-is (
-        labelled-some g a.losses.now a.round.now a.held.now a.s _ w.if-s-lt6.true
-            (c.requires.labels w.if-s-lt6.true).point (w.from.ensures ∙ w.label_in-label.ensures))
+          labelled-some g a.losses.now a.round.now a.held.now a.s _ w.if-s-lt6.true
+          (c.requires.labels w.if-s-lt6.true).point (w.from.ensures ∙ w.label_in-label.ensures))
       | else-s-lt6 w ↦ rw w.held-is (sym (labelled-none g a.losses.now (before c) w.if-s-lt6.false))
     ]
 
