@@ -85,7 +85,7 @@ pub fn pass_noting(
     let mut seen = [0u8; 60000];
     let tails = positions::tails(&held.first, g.indices);
     let mut t = none_met();
-    let mut at = begun(&held.first, g.indices);
+    let mut at = begun(held, g.indices);
     for visited in 0..budget {
         let s = at.status;
         if let Err(unknown) = look_up(g, binomials, &tails, table, round, held, s) {

@@ -39,7 +39,7 @@ pass_noting-passed-requires c =
     let round = c.round_of-round in
     record {
       can_pass = can_pass w.readable w.accepted round.result round.ensures.0 round.ensures.1 c.at-held.result
-          c.at-held.ensures;
+          c.at-held.ensures.0;
       can_note = record {
         measure = record {
           indices = made-indices a.g made;
@@ -62,7 +62,7 @@ finished : (c : After-pass_noting-passed) → (let a = c.args in
     c.pass_noting-passed.new.held c.pass_noting-passed.result.finish)
 finished c =
     let w = c.requires.can_run in
-    finished_from w.readable w.accepted c.at-held.result c.at-held.ensures c.args.budget c.round_of-round.result
+    finished_from w.readable w.accepted c.at-held.result c.at-held.ensures.0 c.args.budget c.round_of-round.result
     c.pass_noting-passed.new.held c.pass_noting-passed.result.finish c.pass_noting-passed.ensures.finished
 
 surveyed : (c : After-pass_noting-passed) → (let a = c.args in

@@ -37,8 +37,8 @@ loop-visited-init c =
     let w = c.requires.can_pass in
     let n = c.requires.can_note in
     record {
-      passing = passes-first a.g w.readable.made a.held.now a.table.now w.accepted w.is_round w.no_coefficients
-          w.no_marks c.begun-at.result c.begun-at.ensures;
+      passing = passes-first a.g w.readable.made a.held.now c.begun-at.new.held a.table.now w.accepted w.is_round
+          c.begun-at.result c.begun-at.ensures;
       kept = rw c.none_met-t.ensures
           (kept-none (shape a.g) (grid-accepted w.accepted) a.w.now n.on_grid a.given a.list.now n.room);
     }

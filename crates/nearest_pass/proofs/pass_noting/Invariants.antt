@@ -12,7 +12,7 @@ use Rattle.nearest_pass.proofs.pass_noting.Given as goal
 
 abbrev pub invariant-loop-visited : goal.invariant-loop-visited
 invariant-loop-visited l =
-    let p = problem_in l.g l.initial.held.first l.table in
+    let p = problem_in l.g l.fn.held.first l.table in
     record {
       passing : Passing p l.visited l.at (state_of l.round l.held l.at.status);
       kept : Kept (shape l.g) l.w l.given l.initial.list (vertices_of (take l.visited (path_of p).visited)) l.seen
