@@ -1,7 +1,7 @@
 -- What is noted of a vertex that is met, and what is kept of those met so far. No promise of a customer's call cites
 -- it. Assumes nothing.
 use Rattle.std.specs.Prelude.{cond, List, None, Option, Some, map, ◌≡◌, ℕ, ◌+◌, ◌≤◌, ◌<◌, eqb, ltb, leb, length, set}
-use Rattle.arrays.specs.Rounds.{LentBoth}
+use Rattle.arrays.specs.Lent.{LentBoth}
 use Rattle.combinatorics.specs.Front.{front}
 use Rattle.combinatorics.specs.Lists.{filter, is_in}
 use Rattle.grid_points.specs.Grid.{Grid, Point, at, position}
