@@ -1,5 +1,4 @@
--- `cover::first_whole` meets its contract. The invariant: no block before j is whole.
--- Assumes nothing.
+-- `cover::first_whole` meets its contract. The invariant: no block before j is whole. Assumes nothing.
 use mathlib.Core.Path.{◌≡◌, sym, ap, ◌∙◌}
 use Prim.Native.Nat.{◌+◌, ◌-◌}
 use native.Mathlib.Numerals.{add-one}
