@@ -146,7 +146,8 @@ module _ (g : GridStruct) (start table : List ℕ) (accepted : Accepted (problem
     in_point : (y : Point) → is_in same_point y (place_at visited k) ≡ true
         → (j : ℕ) × (j ≤ length s.order) × (y ≡ point_in p s j)
     in_point y m =
-        let w = map_in on_numbers on_points (point_in p s) y (up_from 0 (suc (length s.order) - 0)) (rw place_is at m) in
+        let w =
+        map_in on_numbers on_points (point_in p s) y (up_from 0 (suc (length s.order) - 0)) (rw place_is at m) in
         (w.0, omega (arith, (up_from_in 0 (suc (length s.order) - 0) w.0 w.1).1), w.2)
 
     on-grid : (j : ℕ) → j ≤ length s.order → is_grid_point p.grid (point_in p s j) ≡ true
@@ -479,7 +480,8 @@ module _ (g : GridStruct) (start table : List ℕ) (accepted : Accepted (problem
       gone-is : (z : Point) → outside same_point (place_at visited (suc k)) (place_at visited k) ≡ z ∷ []
           → gone-here ≡ position p.grid z
       gone-is z q =
-          let w : (is_in same_point z (place_at visited k) ≡ true) × (is_in same_point z (place_at visited (suc k)) ≡ false) =
+          let w : (is_in same_point z (place_at visited k) ≡ true)
+          × (is_in same_point z (place_at visited (suc k)) ≡ false) =
           outside_in on_points z (place_at visited k) (place_at visited (suc k)) (rw q (in_here on_points z [])) in
           let j = in_point s k here z w.0 in
           let stay : Kept full_marks e j.0 → ⊥ = λ K. absurd_bool
@@ -582,7 +584,8 @@ module _ (g : GridStruct) (start table : List ℕ) (accepted : Accepted (problem
 
     -- the trail after it
     pub next_trail : (writes : Bool) (old now : List ℕ) → (writes ≡ true → length (trail_of p visited) ≤ length old)
-        → (writes ≡ true → Left g start table before k) → now ≡ cond writes (front (trail_of p (take k visited)) old) old
+        → (writes ≡ true → Left g start table before k)
+        → now ≡ cond writes (front (trail_of p (take k visited)) old) old
         → cond writes (paste now at rec (length rec)) now
         ≡ cond writes (front (trail_of p (take (suc k) visited)) old) old
     next_trail true old now room gone e =

@@ -88,7 +88,8 @@ module _ (p : Problem) (bytes : List ℕ) where
           → reading p bytes number ≡ placed (came + 1) b (set_t p b) (set_u p.grid b)
       unfolding reading start_record
       reads-place b e came f =
-          let read = ap (λ (n : ℕ). labels_read (rebuilt_places p bytes n)) one_more ∙ read-from p bytes before starts in
+          let read = ap (λ (n : ℕ). labels_read (rebuilt_places p bytes n)) one_more
+          ∙ read-from p bytes before starts in
           let z : came + 1 ≡ suc came = omega arith in
           rw (behind ∙ e, read, z, f) refl
 

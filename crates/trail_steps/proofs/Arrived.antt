@@ -256,7 +256,10 @@ module _ (m n : ℕ) (s : State) where
       (λ v. rw v fits-none)
       (true_or_false (leb (from + 2) (length bytes)))))
       (λ u. rw u
-      (⊎_elim (λ v. rw v (fits-joining (get_or bytes 3 0))) (λ v. rw v fits-none) (true_or_false (leb 4 (length bytes)))))
+      (⊎_elim
+      (λ v. rw v (fits-joining (get_or bytes 3 0)))
+      (λ v. rw v fits-none)
+      (true_or_false (leb 4 (length bytes)))))
       (true_or_false (eqb (byte / 2 % 2) 1))))
       (true_or_false (eqb (length bytes) 0))
 
@@ -272,7 +275,8 @@ pub data WayLeads {p : Problem} (ok : HasStart p) {a : Simplex} {s : State} (S :
   leads_on : {f : State} (b : Simplex) → Arrives p a b f → OnlyPlace ok S bytes n count b
       → ((x : ℕ) → (change p a b).points_out ≡ x ∷ [] → gone ≡ x)
       → WayLeads ok S bytes n count gone (goes f)
-  leads_nowhere : {after : After} → ((f : State) → after ≡ goes f → ⊥) → ((k : ℕ) → rebuilt_from p (suc k) a bytes ≡ none)
+  leads_nowhere : {after : After} → ((f : State) → after ≡ goes f → ⊥)
+      → ((k : ℕ) → rebuilt_from p (suc k) a bytes ≡ none)
       → WayLeads ok S bytes n count gone after
 
 module _ {p : Problem} (ok : HasStart p) {a : Simplex} {s : State} (S : Shows p a s) (bytes : List ℕ) (n : ℕ)

@@ -30,7 +30,8 @@ use Rattle.path_laws.proofs.Positions.{at_in, in_at}
 use Rattle.path_laws.proofs.Theorem.{block_of_lem, single}
 use Rattle.path_laws.proofs.ToChain.{coefficients_of, in_t, label_of, points_of}
 use Rattle.path_laws.specs.Demand.{HasStart}
-use Rattle.rules.proofs.Describes.{AllMarks, Describes, Joined, Left, Reached, facet_ends, joined_on, labels_of, left_on}
+use Rattle.rules.proofs.Describes.{AllMarks, Describes, Joined, Left, Reached, facet_ends, joined_on, labels_of}
+use Rattle.rules.proofs.Describes.{left_on}
 use Rattle.rules.proofs.Describes.{place_ends}
 use Rattle.rules.proofs.Grow.{grow-ready, grows}
 use Rattle.rules.proofs.Leaves.{leave-ready, leaves}
@@ -57,7 +58,8 @@ TakesOut p a i b = (is_move p a b ≡ true) × (outside same_point b a ≡ nth a
 
 -- a move by which index h joins T, and no point leaves
 abbrev pub BringsIn : Problem → Simplex → ℕ → Simplex → Type 0
-BringsIn p a h b = (is_move p a b ≡ true) × (outside same_point b a ≡ []) × (outside eqb (set_t p a) (set_t p b) ≡ h ∷ [])
+BringsIn p a h b = (is_move p a b ≡ true) × (outside same_point b a ≡ [])
+    × (outside eqb (set_t p a) (set_t p b) ≡ h ∷ [])
 
 -- over a table where the points of the place but point i carry T
 module _ {p : Problem} (ok : HasStart p) {a : Simplex} {s : State} (S : Shows p a s) {i h : ℕ} {labels : List ℕ}
@@ -122,7 +124,8 @@ module _ {p : Problem} (ok : HasStart p) {a : Simplex} {s : State} (S : Shows p 
         let u : coefficient_of q (nth a i) ≡ list_at S.x i = subst
         (λ (c : Simplex). coefficient_of q (nth c i) ≡ list_at S.x i)
         S.here (coefficient_at L.full.has_start C i (omega (arith, il, S.size))) in
-        not_there S.x (subst (λ (t : ℕ). Chain (blocks_of q) S.T t (list_at S.x) S.o) e S.chain) (omega arith) y X v.0 vl
+        let chain = subst (λ (t : ℕ). Chain (blocks_of q) S.T t (list_at S.x) S.o) e S.chain in
+        not_there S.x chain (omega arith) y X v.0 vl
         (sym (back v.0 vl) ∙ ap (coefficient_of q) v.2 ∙ u))
 
   like : LikewiseAfter (leave (labelled S L) i) (leave s i)

@@ -71,7 +71,8 @@ module _ (g : GridStruct) (made : IsMade g) (start tails : List ℕ) {a : Simple
 
       many : length (take status.count held.order) ≡ status.count
       many =
-          counted held.order status.count held.order_long (omega (arith, shown.order_length, shows-few H.has_start shown))
+          counted held.order status.count held.order_long
+          (omega (arith, shown.order_length, shows-few H.has_start shown))
 
       pub can_find : status.rule < 6 → CanFind g tails after status
       can_find r = record {

@@ -1,6 +1,7 @@
 -- What a record at the front of bytes names, and what one record of a reading asks and gives. The reader's own promise
 -- does not cite it. Assumes nothing.
-use Rattle.std.specs.Prelude.{◌&&◌, cond, List, [], map, ◌≡◌, ℕ, suc, ◌+◌, ◌-◌, ◌*◌, ◌/◌, ◌%◌, ◌≤◌, ◌<◌, eqb, leb, ltb, drop, get_or, length, set}
+use Rattle.std.specs.Prelude.{◌&&◌, cond, List, [], map, ◌≡◌, ℕ, suc, ◌+◌, ◌-◌, ◌*◌, ◌/◌, ◌%◌, ◌≤◌, ◌<◌, eqb, leb, ltb}
+use Rattle.std.specs.Prelude.{drop, get_or, length, set}
 use Rattle.combinatorics.specs.Edits.{found}
 use Rattle.grid_points.specs.Grid.{at, num_indices, position}
 use Rattle.grid.specs.Made.{shape}

@@ -89,7 +89,8 @@ module _ (p : Problem) (trail_room : ℕ) where
       (λ (l : trail_room < length (whole_trail p)).
       ap (λ (x : TrailAnswer). x.bytes) (sym (too_short p trail_room l (ended m r k b v s) refl)))
       (λ (l : length (whole_trail p) ≤ trail_room).
-      let f : End m r k b v ≡ Refused n = ap (λ (x : TrailAnswer). x.run) (has_room_lem p trail_room l m r k b v s) ∙ e in
+      let f : End m r k b v ≡ Refused n =
+      ap (λ (x : TrailAnswer). x.run) (has_room_lem p trail_room l m r k b v s) ∙ e in
       absurd (let z : ◌≡◌ {A = ℕ} 0 1 = cc in omega arith))
       (before_or_not trail_room (length (whole_trail p)))
 
@@ -120,7 +121,8 @@ module _ (p : Problem) (room trail_room budget : ℕ) where
       (ap (λ (x : TrailAnswer). x.run)
       (is_17 p trail_room l (answer p budget) (rw (eq-eqb (run_refusal p room) 0 z) at e))))
       (λ z.
-      let f : Refused (run_refusal p room) ≡ End n read kind block vertices = rw (ne_eqb (run_refusal p room) 0 z) at e in
+      let f : Refused (run_refusal p room) ≡ End n read kind block vertices =
+      rw (ne_eqb (run_refusal p room) 0 z) at e in
       absurd (let w : ◌≡◌ {A = ℕ} 0 1 = cc in omega arith))
       (same_or (run_refusal p room) 0)
 

@@ -36,7 +36,9 @@ trail_case p room (ended n read kind block vertices simplex) =
 -- questions 1 to 8 come first; the answer buffer has `room` numbers, the trail buffer `trail_room` bytes
 unfoldable pub trail_answer : Problem → ℕ → ℕ → ℕ → TrailAnswer
 trail_answer p room trail_room budget =
-    cond (eqb (run_refusal p room) 0) (trail_case p trail_room (answer p budget)) (unwritten (Refused (run_refusal p room)))
+    cond (eqb (run_refusal p room) 0)
+    (trail_case p trail_room (answer p budget))
+    (unwritten (Refused (run_refusal p room)))
 
 -- "A refusal returns its number and no count, and changes no buffer": only a run that announces an end writes
 abbrev pub announces : RunAnswer → Bool

@@ -1,5 +1,6 @@
 -- `trail_following::follow` meets its contract. Assumes nothing.
-use Rattle.std.proofs.Common.{List, [], ◌∷◌, ◌≡◌, refl, sym, ap, ◌∙◌, subst, ℕ, suc, ◌+◌, ◌-◌, ◌%◌, ◌≤◌, ◌<◌, drop, get_or, length, arith}
+use Rattle.std.proofs.Common.{List, [], ◌∷◌, ◌≡◌, refl, sym, ap, ◌∙◌, subst, ℕ, suc, ◌+◌, ◌-◌, ◌%◌, ◌≤◌, ◌<◌, drop}
+use Rattle.std.proofs.Common.{get_or, length, arith}
 use mathlib.Core.Option.{none}
 use lib.Seq.{get_or-drop}
 use Rattle.grid.proofs.Fields.{indices-few, made-accepted, made-indices}
@@ -24,7 +25,8 @@ use Rattle.trail_following.proofs.Led.{led_all, led_few, led_none, led_on}
 use Rattle.ways.proofs.Here.{same-gone}
 use Rattle.ways.specs.Ways.{gone_by, way_after}
 use Rattle.trail_following.proofs.follow.Goals as goal
-use Rattle.trail_following.proofs.follow.Goals.{After-arrive-bytes, After-moved_by-outcome, After-way_on-way, At-loop-record, In-Moved}
+use Rattle.trail_following.proofs.follow.Goals.{After-arrive-bytes, After-moved_by-outcome, After-way_on-way}
+use Rattle.trail_following.proofs.follow.Goals.{At-loop-record, In-Moved}
 
 pub loop-record-init : goal.loop-record-init
 loop-record-init c = (

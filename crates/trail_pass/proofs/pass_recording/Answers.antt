@@ -28,7 +28,8 @@ use Rattle.ways.proofs.Here.{can_tell, here-steps, same-gone, same_way}
 use Rattle.ways.proofs.RuleOne.{KeepsBoth, rule-one}
 use Rattle.ways.specs.Ways.{CanTell, gone_by, held_marks, way_here}
 use Rattle.trail_pass.proofs.pass_recording.Goals as goal
-use Rattle.trail_pass.proofs.pass_recording.Goals.{After-bytes_to-end, After-make_move, In-Moved, In-loop-visited, In_default}
+use Rattle.trail_pass.proofs.pass_recording.Goals.{After-bytes_to-end, After-make_move, In-Moved, In-loop-visited}
+use Rattle.trail_pass.proofs.pass_recording.Goals.{In_default}
 
 pub tails-tails-requires : goal.tails-tails-requires
 tails-tails-requires c = indices-few c.args.g c.requires.can_pass.readable.made
@@ -242,7 +243,8 @@ so_far_lem : (c : In-Moved)
 so_far_lem c =
     let P = here (goal.at.In-Moved c).After-make_move in
     let l = c.loop-visited in
-    next_so_far P.g P.start P.table P.ok (stands P) P.visited P.passing.here (told (goal.at.In-Moved c).In_default).known
+    let R = told (goal.at.In-Moved c).In_default in
+    next_so_far P.g P.start P.table P.ok (stands P) P.visited P.passing.here R.known
     l.before l.from l.invariant.1.so_far _ l.end l.invariant.1.counted
 
 pub bytes_to-end-requires : goal.bytes_to-end-requires

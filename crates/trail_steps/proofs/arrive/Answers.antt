@@ -34,4 +34,7 @@ stored c =
     ]
 
 pub returns : goal.returns
-returns c = record { marked = stored (goal.at.returns c).Joined-s-lt6; value = rw (← c.come_in-come.ensures) c.standing_bytes.ensures }
+returns c = record {
+  marked = stored (goal.at.returns c).Joined-s-lt6;
+  value = rw (← c.come_in-come.ensures) c.standing_bytes.ensures;
+}

@@ -116,9 +116,14 @@ placed-requires c =
         points = record { low = C.low; few = C.few; indices = C.indices; positive = C.positive; fits = C.fits };
         short = few;
         low = omega arith;
-        fits = rw minus_none (omega (arith, few-numbers w.has_start R.shows a.g.indices few, long (goal.at.placed-requires c).Start));
+        fits = rw minus_none (omega (
+          arith,
+          few-numbers w.has_start R.shows a.g.indices few,
+          long (goal.at.placed-requires c).Start,
+        ));
       },
-      counted h.order c.in-Some.reached.status.count h.order_long (omega (arith, R.shows.order_length, shows-few w.has_start R.shows)),
+      counted h.order c.in-Some.reached.status.count h.order_long
+          (omega (arith, R.shows.order_length, shows-few w.has_start R.shows)),
     )
 
 pub returns : goal.returns

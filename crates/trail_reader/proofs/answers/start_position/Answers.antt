@@ -13,7 +13,13 @@ position-requires c =
     let a = c.args in
     let w = c.requires in
     let few = indices-few a.g w.measured.made in
-    let stays = none_after a.first.now a.g.indices few (omega (arith, few, w.first_length)) in record { made = (w.measured.made, w.measured.filled); can_take_steps = (none-can a.first.now a.g.indices few, ap (is_grid_point (shape a.g)) stays ∙ w.has_start.start) }
+    let stays = none_after a.first.now a.g.indices few (omega (arith, few, w.first_length)) in record {
+      made = (w.measured.made, w.measured.filled);
+      can_take_steps = (
+        none-can a.first.now a.g.indices few,
+        ap (is_grid_point (shape a.g)) stays ∙ w.has_start.start,
+      );
+    }
 
 pub returns : goal.returns
 returns c =

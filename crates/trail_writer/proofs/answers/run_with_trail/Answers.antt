@@ -56,7 +56,8 @@ is_made c =
     made-is (lent (goal.at.Else-code-ne0 c).Start) made.result made.ensures c.if-code-ne0.false
 
 -- what holds of the grid's problem holds of the problem that was lent
-of_lent : (c : Else-code-ne0) {said : TrailAnswer} {answer trail : List ℕ} → Answers (goal.at.Else-code-ne0 c).Start said answer trail (problem c)
+of_lent : (c : Else-code-ne0) {said : TrailAnswer} {answer trail : List ℕ}
+    → Answers (goal.at.Else-code-ne0 c).Start said answer trail (problem c)
     → Answers (goal.at.Else-code-ne0 c).Start said answer trail (lent_problem (goal.at.Else-code-ne0 c).Start)
 of_lent c {said} {answer} {trail} =
     let begin = (goal.at.Else-code-ne0 c).Start in
@@ -110,5 +111,8 @@ returns c =
     let told = c.announced.ensures in
     let v = answered (problem here) a.budget a.answer.now a.trail.now
     (asked (goal.at.returns c).After-first_run_no-number ∙ c.if-number-ne0.false) in
-    let both = of_lent here (told.value ∙ v.0, ((rw told.value at told.answer_after) ∙ v.1, (rw told.value at told.trail_after) ∙ v.2)) in
+    let both = of_lent here (
+      told.value ∙ v.0,
+      ((rw told.value at told.answer_after) ∙ v.1, (rw told.value at told.trail_after) ∙ v.2),
+    ) in
     record { answer = both.0; buffer = both.1.0; trail = both.1.1 }
