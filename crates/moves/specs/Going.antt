@@ -1,5 +1,5 @@
 -- What moving the first point on or back by a step asks of what is held, and what it leaves there. Assumes nothing.
-use Rattle.std.specs.Prelude.{true, ◌≡◌, ℕ, suc, pred, ◌≤◌, ◌<◌, ltb, take}
+use Rattle.std.specs.Prelude.{true, ◌≡◌, ℕ, suc, pred, ◌≤◌, ◌<◌, drop, ltb, take}
 use Rattle.combinatorics.specs.Edits.{rotate_left, rotate_right}
 use Rattle.grid_points.specs.Grid.{at}
 use Rattle.rules.specs.Ready.{IndicesBelow, tested_before}
@@ -26,6 +26,8 @@ pub record GoesForward (round : Round) (old new : Held) (n h b : ℕ) : Type 0 w
   pub list : new.coefficients ≡ changed_before suc round.previous b 16 h old.coefficients
   pub steps : take n new.order ≡ rotate_left (take n old.order)
   pub marked : take (suc n) new.marks ≡ rotate_left (take (suc n) old.marks)
+  pub behind_steps : drop n new.order ≡ drop n old.order
+  pub behind_marks : drop (suc n) new.marks ≡ drop (suc n) old.marks
 
 -- and back
 pub record CanGoBack (round : Round) (held : Held) (h b : ℕ) : Type 0 where
@@ -38,3 +40,5 @@ pub record GoesBack (round : Round) (old new : Held) (n h b : ℕ) : Type 0 wher
   pub list : new.coefficients ≡ changed_before pred round.previous b 16 h old.coefficients
   pub steps : take n new.order ≡ rotate_right (take n old.order)
   pub marked : take (suc n) new.marks ≡ rotate_right (take (suc n) old.marks)
+  pub behind_steps : drop n new.order ≡ drop n old.order
+  pub behind_marks : drop (suc n) new.marks ≡ drop (suc n) old.marks

@@ -26,6 +26,20 @@ state_with round first coefficients order marks s = record {
 abbrev pub state_of : Round → Held → Status → State
 state_of round held s = state_with round held.first held.coefficients held.order held.marks s
 
+-- the same state with other marks
+abbrev pub with_marks : State → List ℕ → State
+with_marks s marks = record {
+  round = s.round;
+  first = s.first;
+  coefficients = s.coefficients;
+  order = s.order;
+  marks = marks;
+  T = s.T;
+  U = s.U;
+  active = s.active;
+  rule = s.rule;
+}
+
 -- what a move has given; at an end the status is that of before
 abbrev pub answered : Round → Held → Status → Outcome → After
 answered round held s (Moved r) = goes (state_of round held r)

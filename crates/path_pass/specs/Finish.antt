@@ -76,6 +76,7 @@ pub record HasBegun (old new : Held) (m : ℕ) (at : Stand) : Type 0 where
   pub status : IsBegun old.first m at.status
   pub labels : at.labels ≡ 1
   pub first : new.first ≡ old.first
+  pub order : new.order ≡ old.order
   pub no_coefficients : new.coefficients ≡ replicate 16 0
   pub no_marks : new.marks ≡ replicate 16 0
 

@@ -12,5 +12,5 @@ use Rattle.rules.specs.declared.Round.{Round}
 -- the label is known, or nothing is read, and the marks are held; or it is not known, and what is held is as before
 abbrev pub LooksUp : Problem → Round → Held → Held → Status → Result Unit Unknown → Type 0
 LooksUp p round old new s (Ok x) =
-    IsKnown p (state_of round old s) × (state_of round new s ≡ read p (state_of round old s))
+    IsKnown p (state_of round old s) × (state_of round new s ≡ read p (state_of round old s)) × (new.order ≡ old.order)
 LooksUp p round old new s (Err e) = IsUnknown p (state_of round old s) e.position × (new ≡ old)

@@ -1,23 +1,10 @@
 -- A state whose marks have labels and no positions: no move looks at a position. Assumes nothing.
 use Rattle.std.specs.Prelude.{cond, List, map, ℕ, ltb}
 use Rattle.grid_points.specs.Grid.{Grid}
+use Rattle.moves.specs.Held.{with_marks}
 use Rattle.game_losses.specs.Game.{game_label}
 use Rattle.rules.specs.Read.{point_on}
 use Rattle.rules.specs.Moves.{State, After, goes, ends_at_place, ends_at_facet, mark_label, with_mark}
-
--- the same state with other marks
-abbrev pub with_marks : State → List ℕ → State
-with_marks s marks = record {
-  round = s.round;
-  first = s.first;
-  coefficients = s.coefficients;
-  order = s.order;
-  marks = marks;
-  T = s.T;
-  U = s.U;
-  active = s.active;
-  rule = s.rule;
-}
 
 -- each mark without its position
 abbrev pub bare_state : State → State

@@ -31,7 +31,8 @@ use Rattle.trail.specs.Record.{record_of}
 use Rattle.trail.specs.Trail.{begins, rebuilt_from}
 use Rattle.trail_steps.proofs.Reached.{Arrives, stored}
 use Rattle.marks.specs.Reading.{CanFind}
-use Rattle.trail_steps.specs.Shows.{Shows, with_marks}
+use Rattle.trail_steps.specs.Shows.{Shows}
+use Rattle.moves.specs.Held.{with_marks}
 use Rattle.trail_steps.proofs.Arrived.{OnlyPlace, WayLeads, goes_on, inside, leads_nowhere, leads_on, not_there}
 use Rattle.trail_steps.proofs.Arrived.{position-low, record_is}
 use Rattle.trail_steps.proofs.Named.{shows-few}

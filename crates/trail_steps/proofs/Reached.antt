@@ -43,7 +43,8 @@ use Rattle.trail.proofs.SomeLinks.{LinkOver, link-moves}
 use Rattle.trail.proofs.Tables.{Labelled}
 use Rattle.trail.specs.Change.{ByRule, change, outside}
 use Rattle.trail.specs.Trail.{is_move}
-use Rattle.trail_steps.specs.Shows.{Shows, bare, with_marks}
+use Rattle.trail_steps.specs.Shows.{Shows, bare}
+use Rattle.moves.specs.Held.{with_marks}
 use Rattle.trail_steps.proofs.Shows.{chain-over, labelled, shows-at, shows-long}
 use Rattle.trail_steps.proofs.Stripped.{Likewise, strip, stripped, with_active}
 

@@ -22,7 +22,8 @@ use Rattle.rules.proofs.Describes.{AllMarks, Describes, labels_of, mark_at}
 use Rattle.rules.proofs.Range.{nth_points_of}
 use Rattle.rules.specs.Moves.{State}
 use Rattle.trail.proofs.Tables.{Labelled}
-use Rattle.trail_steps.specs.Shows.{Shows, with_marks}
+use Rattle.trail_steps.specs.Shows.{Shows}
+use Rattle.moves.specs.Held.{with_marks}
 
 -- the label suc k names the index k
 names : (m k : ℕ) → k < m → index_of m (suc k) ≡ k

@@ -16,7 +16,7 @@ use Rattle.rules.specs.Mask.{bit}
 use Rattle.rules.specs.Moves.{State, After, goes, ends_at_place, ends_at_facet, first_outside, grow}
 use Rattle.rules.specs.Moves.{is_filled, leave, leave_first, leave_last, leave_middle, mark, mark_position, shrink}
 use Rattle.rules.specs.Moves.{source_in}
-use Rattle.trail_steps.specs.Shows.{with_marks}
+use Rattle.moves.specs.Held.{with_marks}
 
 -- a mark without its label
 abbrev pub strip : ℕ → ℕ

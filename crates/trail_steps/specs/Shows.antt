@@ -12,20 +12,6 @@ use Rattle.rules.specs.Mask.{bit}
 use Rattle.rules.specs.Ready.{IsRound}
 use Rattle.rules.specs.Moves.{State, mark}
 
--- the same state with other marks
-abbrev pub with_marks : State → List ℕ → State
-with_marks s marks = record {
-  round = s.round;
-  first = s.first;
-  coefficients = s.coefficients;
-  order = s.order;
-  marks = marks;
-  T = s.T;
-  U = s.U;
-  active = s.active;
-  rule = s.rule;
-}
-
 -- the mark of a point that has no label
 abbrev pub bare : Problem → Point → ℕ
 bare p y = mark (position p.grid y) 0

@@ -10,7 +10,7 @@ ghost use Rattle.positions.specs.Binomials.{Measured};
 ghost use Rattle.rules.specs.Moves.{mark_position};
 ghost use Rattle.trail_steps.specs.Reading.{CanCompare, bytes_standing, come_position, joining, leaving};
 ghost use Rattle.trail_steps.specs.Reading.{marks_with, way_of};
-ghost use Rattle.trail_steps.specs.Shows.{with_marks};
+ghost use Rattle.moves.specs.Held.{with_marks};
 ghost use Rattle.ways.specs.Ways.{held_marks};
 
 use arrays::{has, position_at};
@@ -127,6 +127,8 @@ pub fn arrive(
     requires can_compare { CanCompare g (state_of round.now held.old s) gone (length trail.now) at }
     ensures marked { let a = state_of round.now held.old s in
         state_of round.now held.new s ≡ with_marks a (marks_with g a a.marks) }
+    ensures rest { let a = state_of round.now held.old s in
+        (held.new.marks ≡ marks_with g a held.old.marks) × (held.new.order ≡ held.old.order) }
     ensures value { result ≡ bytes_standing g (state_of round.now held.old s) before gone (drop at trail.now) }
 {
     let come = come_in(g, binomials, tails, round, held, s);

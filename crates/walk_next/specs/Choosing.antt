@@ -14,8 +14,8 @@ pub record CanFill (held : Held) (point : ℕ) (unknown : Bool) : Type 0 where
   pub room : unknown ≡ true → at held.marks point < 4294967295
 
 -- what is held, with other marks
-abbrev pub with_marks : Held → List ℕ → Held
-with_marks held marks = record {
+abbrev pub held_with_marks : Held → List ℕ → Held
+held_with_marks held marks = record {
   first = held.first;
   coefficients = held.coefficients;
   order = held.order;
@@ -24,8 +24,8 @@ with_marks held marks = record {
   order_long = held.order_long;
 }
 
-pub record FilledBy (held : Held) (point : ℕ) (unknown : Bool) (own : Held) : Type 0 where
-  pub same : own ≡ with_marks held own.marks
+pub record MarksFilledBy (held : Held) (point : ℕ) (unknown : Bool) (own : Held) : Type 0 where
+  pub same : own ≡ held_with_marks held own.marks
   pub long : length own.marks ≡ 16
   pub each : (j : ℕ) → at own.marks j ≡ at held.marks j + cond (unknown && eqb j point) 1 0
 
@@ -35,4 +35,4 @@ pub record CanChoose (g : GridStruct) (w : WalkStruct) (labels : List ℕ) (held
   pub long : length held.marks ≡ 16
   pub room : at held.marks here.active < 4294967295
   pub stands : (own : Held) (unknown : Bool) → unknown ≡ eqb (label_at held.marks here.active) 0
-      → FilledBy held here.active unknown own → Standing g w labels own here unknown
+      → MarksFilledBy held here.active unknown own → Standing g w labels own here unknown

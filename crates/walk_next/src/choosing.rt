@@ -1,6 +1,6 @@
 // What comes next from a place that is recognised, by its spare point.
 ghost use Rattle.std.specs.Prelude.{◌≡◌};
-ghost use Rattle.walk_next.specs.Choosing.{CanChoose, CanFill, FilledBy};
+ghost use Rattle.walk_next.specs.Choosing.{CanChoose, CanFill, MarksFilledBy};
 ghost use Rattle.walk_ways.specs.Standing.{IsRoundOf, next_in};
 
 use arrays::label_in;
@@ -13,7 +13,7 @@ use walk_ways::{Next, from_other, from_start};
 // What is held, with index 1 for the label of this point where it is not yet known.
 fn filled(held: &Held, point: usize, unknown: bool) -> Held
     requires { CanFill held.now point unknown }
-    ensures { FilledBy held.now point unknown result }
+    ensures { MarksFilledBy held.now point unknown result }
 {
     let mut own = *held;
     if unknown {

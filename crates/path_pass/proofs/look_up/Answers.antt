@@ -1,6 +1,6 @@
 -- `look_up` meets its contract: after rules 6 and 7 nothing is read, and else the mark that is looked up is stored.
 -- Assumes nothing.
-use Rattle.std.proofs.Common.{sym, ◌∙◌, arith}
+use Rattle.std.proofs.Common.{refl, sym, ◌∙◌, arith}
 use Rattle.marks.specs.Reading.{table_problem}
 use Rattle.path_pass.proofs.Places.{looked_none, looked_some}
 use Rattle.path_pass.proofs.Visits.{marked-known}
@@ -14,6 +14,7 @@ returns-in_ok-mark c =
       (λ _. e.0),
       looked_some (table_problem a.g a.table.now) a.round.now a.held.now a.s c.in_ok-mark.mark c.if-s-lt6.true
           (omega (arith, can.reads.point.low, can.many)) e.1,
+      refl,
     )
 
 pub returns-else-s-lt6 : goal.returns-else-s-lt6
@@ -21,4 +22,5 @@ returns-else-s-lt6 c =
     let a = c.args in (
       (λ r. absurd (omega (arith, c.if-s-lt6.false))),
       looked_none (table_problem a.g a.table.now) a.round.now a.held.now a.s c.if-s-lt6.false,
+      refl,
     )
