@@ -1,8 +1,8 @@
 -- What is known where the points of a game are labelled. The promises of a labelling do not cite this. Assumes nothing.
 use Rattle.std.specs.Prelude.{Bool, false, List, [], ◌≡◌, ℕ, ◌<◌, ℤ, length, get_or}
 use Rattle.game_corners.specs.Corners.{last_player, corner_grid}
-use Rattle.grid_points.specs.Grid.{Grid, Point, num_blocks, num_points, points}
-use Rattle.game_weighed.specs.Levels.{Owners, LevelsAt}
+use Rattle.grid_points.specs.Grid.{Grid, Point, lent, num_blocks, num_points, points}
+use Rattle.game_weighed.specs.Levels.{Owners, Rests, LevelsAt}
 use Rattle.game_losses.specs.Table.{IsTable}
 use Rattle.points_in_order.specs.Lent.{WithFirsts}
 
@@ -17,11 +17,12 @@ pub record ChangeToWeigh (g : Grid) (ones firsts owners rests losses : List ℕ)
   pub rows : length differences ≡ 256
 
 -- a game whose points are labelled from the first on
-pub record PointsToLabel (g : Grid) (ones firsts owners losses point levels : List ℕ) (differences : List ℤ)
-    (buffer : List ℕ) : Type 0 where
+pub record PointsToLabel (g : Grid) (ones firsts owners rests losses point levels : List ℕ)
+    (differences : List ℤ) (buffer : List ℕ) : Type 0 where
   pub grid : WithFirsts g firsts
   pub ones_are : ones ≡ (corner_grid g).divisions
   pub owned : Owners g owners
+  pub rested : Rests (lent g.sizes []) rests
   pub table : IsTable g losses
   pub first : point ≡ get_or (points g) 0 []
   pub numbers : length levels ≡ 15552

@@ -11,7 +11,7 @@ ghost use Rattle.place.specs.Path.{answer as answer_of};
 
 use arrays::round_of;
 use finder::{RunAnswer, announce};
-use game_weighed::rests;
+use game_weighed::{Game, rests};
 use grid::Grid;
 use moves::Held;
 use solve_pass::pass;
@@ -37,18 +37,16 @@ pub fn run(
     let blocks = unit.blocks;
     let round = round_of(unit);
     let mut held = Held::at(start, unit.indices);
-    let lengths = rests(&own_sizes[..blocks]);
-    let finish = pass(
-        &own_sizes[..blocks],
+    let sizes = &own_sizes[..blocks];
+    let rests = rests(sizes);
+    let game = Game {
+        sizes,
         divisions,
-        &firsts,
-        &owners,
-        &lengths,
+        firsts: &firsts,
+        owners: &owners,
+        rests: &rests,
         losses,
-        unit.indices,
-        &round,
-        &mut held,
-        budget,
-    );
+    };
+    let finish = pass(&game, unit.indices, &round, &mut held, budget);
     announce(unit, &round, &held, finish, answer, budget)
 }

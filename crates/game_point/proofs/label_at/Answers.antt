@@ -20,13 +20,13 @@ use Rattle.game_point.proofs.label_at.Goals as goal
 use Rattle.game_point.proofs.label_at.Goals.{After-first_largest-i, Start}
 
 long : (c : Start)
-    → length c.args.point.now ≡ num_indices (lent c.args.sizes.now c.args.divisions.now)
-long c = point-long (lent c.args.sizes.now c.args.divisions.now) c.args.point.now c.requires.game_at.is_point
+    → length c.args.point.now ≡ num_indices (lent c.args.game.now.sizes.now c.args.game.now.divisions.now)
+long c = point-long (lent c.args.game.now.sizes.now c.args.game.now.divisions.now) c.args.point.now c.requires.game_at.is_point
 
 some : (c : Start) → 0 < length c.args.point.now
 some c =
     let game = c.requires.game_at in
-    omega (arith, long c, block-fits c.args.sizes.now 0, size-two game 0 game.grid.some_block)
+    omega (arith, long c, block-fits c.args.game.now.sizes.now 0, size-two game 0 game.grid.some_block)
 
 pub first_largest-i-requires : goal.first_largest-i-requires
 first_largest-i-requires c =
@@ -49,19 +49,19 @@ bounds-differences-i c = index-low c
 
 difference-at : (c : After-first_largest-i) (h : ℕ) → h < length c.args.point.now
     → signed_at c.differences-differences.result h
-    ≡ difference (lent c.args.sizes.now c.args.divisions.now) c.args.losses.now
+    ≡ difference (lent c.args.game.now.sizes.now c.args.game.now.divisions.now) c.args.game.now.losses.now
     c.args.point.now h
 difference-at c h l =
-    c.differences-differences.ensures c.args.losses.now c.requires.game_at
+    c.differences-differences.ensures c.args.game.now.losses.now c.requires.game_at
     c.strategy_losses-values.ensures h (omega (arith, long (goal.at.After-first_largest-i c).Start))
 
 label_is : (c : After-first_largest-i)
     → c.first_largest-i.result + 1
-    ≡ game_label (lent c.args.sizes.now c.args.divisions.now) c.args.losses.now
+    ≡ game_label (lent c.args.game.now.sizes.now c.args.game.now.divisions.now) c.args.game.now.losses.now
     c.args.point.now
 unfolding game_label
 label_is c =
-    let d = difference (lent c.args.sizes.now c.args.divisions.now) c.args.losses.now
+    let d = difference (lent c.args.game.now.sizes.now c.args.game.now.divisions.now) c.args.game.now.losses.now
     c.args.point.now in
     add-one c.first_largest-i.result
     ∙ ap suc
@@ -78,6 +78,6 @@ returns c =
       e,
       to_z-of_z {w = w64} fits
           ∙ difference-at (goal.at.returns c).After-first_largest-i i c.first_largest-i.ensures.1
-          ∙ ap (difference (lent c.args.sizes.now c.args.divisions.now) c.args.losses.now
+          ∙ ap (difference (lent c.args.game.now.sizes.now c.args.game.now.divisions.now) c.args.game.now.losses.now
           c.args.point.now) (sym z ∙ ap pred e),
     )

@@ -20,18 +20,12 @@ at-held-requires c = can_pad c.requires
 pub slice_bounds-own_sizes-end : goal.slice_bounds-own_sizes-end
 slice_bounds-own_sizes-end c = blocks-room c.requires
 
-pub slice_bounds-rests-end : goal.slice_bounds-rests-end
-slice_bounds-rests-end c = sym (length-take-le _ _ (blocks-room c.requires))
-
-pub slice_bounds-own_sizes-end-2 : goal.slice_bounds-own_sizes-end-2
-slice_bounds-own_sizes-end-2 c = blocks-room c.requires
-
-pub slice_bounds-pass-end : goal.slice_bounds-pass-end
-slice_bounds-pass-end c = sym (length-take-le _ _ (blocks-room c.requires))
+pub slice_bounds-sizes-end : goal.slice_bounds-sizes-end
+slice_bounds-sizes-end c = sym (length-take-le _ _ (blocks-room c.requires))
 
 pub pass-finish-requires : goal.pass-finish-requires
 pass-finish-requires c =
-    let lengths = c.rests-lengths in
+    let lengths = c.rests-rests in
     let round = c.round_of-round in
     can_pass c.requires lengths.result lengths.ensures round.result round.ensures.0 round.ensures.1 c.at-held.result c.at-held.ensures.0
 

@@ -30,5 +30,5 @@ pub returns : goal.returns
 returns c =
     let a = c.args in
     c.label_at-seen.ensures.0
-    ∙ ap (game_label (lent a.sizes.now a.divisions.now) a.losses.now)
+    ∙ ap (game_label (lent a.game.now.sizes.now a.game.now.divisions.now) a.game.now.losses.now)
     (point-is a.round.now a.held.now a.s c.requires c.advance.new.y c.advance.ensures)

@@ -9,5 +9,5 @@ use Rattle.solve_pass.proofs.pass.Given as goal
 
 abbrev pub invariant-loop-visited : goal.invariant-loop-visited
 invariant-loop-visited l =
-    Passing (game_problem (lent l.sizes l.divisions) (take l.indices l.fn.held.first) l.losses) l.visited l.at
+    Passing (game_problem (lent l.game.sizes.now l.game.divisions.now) (take l.indices l.fn.held.first) l.game.losses.now) l.visited l.at
     (state_of l.round l.held l.at.status)

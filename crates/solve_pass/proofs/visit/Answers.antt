@@ -15,15 +15,15 @@ abbrev before : Joined-s-lt6 → State
 before c = let a = c.args in state_of a.round.now a.held.now a.s
 
 worked-out : (c : Joined-s-lt6) → (let a = c.args in
-    state_of a.round.now c.if-s-lt6.held a.s ≡ labelled (lent a.sizes.now a.divisions.now) a.losses.now (before c))
+    state_of a.round.now c.if-s-lt6.held a.s ≡ labelled (lent a.game.now.sizes.now a.game.now.divisions.now) a.game.now.losses.now (before c))
 worked-out c =
     let a = c.args in
-    let g = lent a.sizes.now a.divisions.now in
+    let g = lent a.game.now.sizes.now a.game.now.divisions.now in
     elim c.if-s-lt6.branch [
       | then-s-lt6 w ↦ rw w.held-is (
-          labelled-some g a.losses.now a.round.now a.held.now a.s _ w.if-s-lt6.true
+          labelled-some g a.game.now.losses.now a.round.now a.held.now a.s _ w.if-s-lt6.true
           (c.requires.labels w.if-s-lt6.true).point (w.from.ensures ∙ w.label_in-label.ensures))
-      | else-s-lt6 w ↦ rw w.held-is (sym (labelled-none g a.losses.now (before c) w.if-s-lt6.false))
+      | else-s-lt6 w ↦ rw w.held-is (sym (labelled-none g a.game.now.losses.now (before c) w.if-s-lt6.false))
     ]
 
 pub label_in-label-requires : goal.label_in-label-requires

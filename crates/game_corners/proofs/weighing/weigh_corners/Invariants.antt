@@ -8,5 +8,5 @@ use Rattle.game_corners.proofs.weighing.weigh_corners.Given as goal
 
 abbrev pub invariant-loop-k : goal.invariant-loop-k
 invariant-loop-k l =
-    (t : List ℕ) → StandTo (lent l.sizes l.ones) t l.point (last_player (lent l.sizes l.ones)) l.levels
-    → Cornered (lent l.sizes l.ones) t l.point l.k l.differences
+    (t : List ℕ) → StandTo (lent l.game.sizes.now l.game.divisions.now) t l.point (last_player (lent l.game.sizes.now l.game.divisions.now)) l.levels
+    → Cornered (lent l.game.sizes.now l.game.divisions.now) t l.point l.k l.differences

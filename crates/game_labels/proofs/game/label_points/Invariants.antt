@@ -15,12 +15,12 @@ use Rattle.game_labels.proofs.game.label_points.Given as goal
 
 abbrev pub invariant-loop-label : goal.invariant-loop-label
 invariant-loop-label l = record {
-  written : l.buffer ≡ front (take l.label-index (labels (lent l.sizes l.divisions) l.losses)) l.initial.buffer;
-  here : l.label-index < num_points (lent l.sizes l.divisions) → l.point ≡ get_or (points (lent l.sizes l.divisions)) l.label-index [];
+  written : l.buffer ≡ front (take l.label-index (labels (lent l.game.sizes.now l.game.divisions.now) l.game.losses.now)) l.initial.buffer;
+  here : l.label-index < num_points (lent l.game.sizes.now l.game.divisions.now) → l.point ≡ get_or (points (lent l.game.sizes.now l.game.divisions.now)) l.label-index [];
   long : length l.point ≡ length l.initial.point;
-  stand : StandTo (lent l.sizes []) l.losses l.point l.first l.levels;
+  stand : StandTo (lent l.game.sizes.now []) l.game.losses.now l.point l.first l.levels;
   corners : l.changed ≡ false
-      → Cornered (lent l.sizes l.ones) l.losses l.point (num_corners (lent l.sizes l.divisions)) l.differences;
-  inside : l.first < length l.sizes;
-  kept : l.changed ≡ false → l.first ≡ last_player (lent l.sizes l.divisions);
+      → Cornered (lent l.game.sizes.now l.ones) l.game.losses.now l.point (num_corners (lent l.game.sizes.now l.game.divisions.now)) l.differences;
+  inside : l.first < length l.game.sizes.now;
+  kept : l.changed ≡ false → l.first ≡ last_player (lent l.game.sizes.now l.game.divisions.now);
 }

@@ -11,7 +11,7 @@ use Rattle.game_point.proofs.differing.differences.Given as goal
 
 abbrev pub invariant-loop-h : goal.invariant-loop-h
 invariant-loop-h l =
-    ((losses : List ℕ) → GameAt (lent l.sizes l.divisions) l.firsts l.owners losses l.point
-    → OwnLosses (lent l.sizes l.divisions) losses l.point l.values
-    → (i : ℕ) → i < l.h → signed_at l.differences i ≡ difference (lent l.sizes l.divisions) losses l.point i)
+    ((losses : List ℕ) → GameAt (lent l.game.sizes.now l.game.divisions.now) l.game.firsts.now l.game.owners.now losses l.point
+    → OwnLosses (lent l.game.sizes.now l.game.divisions.now) losses l.point l.values
+    → (i : ℕ) → i < l.h → signed_at l.differences i ≡ difference (lent l.game.sizes.now l.game.divisions.now) losses l.point i)
     × (length l.differences ≡ 16)

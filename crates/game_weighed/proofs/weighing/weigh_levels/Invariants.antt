@@ -8,4 +8,4 @@ use Rattle.game_weighed.proofs.weighing.weigh_levels.Given as goal
 
 abbrev pub invariant-loop-level : goal.invariant-loop-level
 invariant-loop-level l =
-    (t : List ℕ) → StandTo (lent l.sizes []) t l.point l.first l.initial.levels → StandTo (lent l.sizes []) t l.point l.level l.levels
+    (t : List ℕ) → StandTo (lent l.game.sizes.now []) t l.point l.first l.initial.levels → StandTo (lent l.game.sizes.now []) t l.point l.level l.levels
