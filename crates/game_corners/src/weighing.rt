@@ -2,8 +2,7 @@
 ghost use Rattle.std.specs.Prelude.{List, ◌≡◌, ℕ, ◌+◌, ◌≤◌, ◌<◌, length, take, set, replicate};
 ghost use Rattle.combinatorics.specs.Front.{front};
 ghost use Rattle.game_corners.specs.Corners.{last_player, num_corners, Cornered, CornersToWeigh};
-ghost use Rattle.grid_points.specs.Grid.{lent};
-ghost use Rattle.game_weighed.specs.Levels.{StandTo};
+ghost use Rattle.game_weighed.specs.Levels.{StandTo, game_grid};
 
 use crate::largest;
 use crate::picking::pick;
@@ -24,12 +23,12 @@ fn corner(point: &[u16], first: usize, h: usize) -> [u16; 16]
 // The differences at corner k come to those at the corners before it. The losses of the strategies there stand on the
 // last level.
 fn weigh_corner(game: &Game, point: &[u16], levels: &[u32], k: usize, differences: &mut [i64])
-    requires { let g = lent game.now.sizes.now game.now.divisions.now in
+    requires { let g = game_grid game.now in
         ((losses : List ℕ)
         × CornersToWeigh g game.now.firsts.now game.now.owners.now losses point.now levels.now
         differences.old)
         × (k < num_corners g) }
-    ensures { let g = lent game.now.sizes.now game.now.divisions.now in
+    ensures { let g = game_grid game.now in
         let y = point.now in
         (losses : List ℕ) → StandTo g losses y (last_player g) levels.now
         → Cornered g losses y k differences.old → Cornered g losses y (k + 1) differences.new }
@@ -57,11 +56,11 @@ fn weigh_corner(game: &Game, point: &[u16], levels: &[u32], k: usize, difference
 
 // The differences at all corners of the point, in the game with 1 as the last division.
 pub fn weigh_corners(game: &Game, point: &[u16], levels: &[u32], differences: &mut [i64])
-    requires { let g = lent game.now.sizes.now game.now.divisions.now in
+    requires { let g = game_grid game.now in
         (losses : List ℕ)
         × CornersToWeigh g game.now.firsts.now game.now.owners.now losses point.now levels.now
         differences.old }
-    ensures { let g = lent game.now.sizes.now game.now.divisions.now in
+    ensures { let g = game_grid game.now in
         let y = point.now in
         (losses : List ℕ) → StandTo g losses y (last_player g) levels.now
         → Cornered g losses y (num_corners g) differences.new }

@@ -5,7 +5,7 @@ ghost use Rattle.combinatorics.specs.Lists.{sum};
 ghost use Rattle.game_corners.specs.Corners.{num_corners, Cornered};
 ghost use Rattle.game_labels.specs.Points.{ChangeToWeigh, PointsToLabel};
 ghost use Rattle.grid_points.specs.Grid.{num_points, lent};
-ghost use Rattle.game_weighed.specs.Levels.{Owners, Rests, StandTo};
+ghost use Rattle.game_weighed.specs.Levels.{Owners, Rests, StandTo, game_grid};
 ghost use Rattle.game_losses.specs.Game.{labels};
 ghost use Rattle.game_losses.specs.Table.{IsTable};
 ghost use Rattle.points_in_order.specs.Lent.{WithFirsts};
@@ -31,7 +31,7 @@ fn weigh_changed(
     ensures stand_to { let y = point.now in
         (losses : List ℕ) → StandTo (lent game.now.sizes.now []) losses y first levels.old
         → StandTo (lent game.now.sizes.now []) losses y (length game.now.sizes.now - 1) levels.new }
-    ensures cornered { let g = lent game.now.sizes.now game.now.divisions.now in
+    ensures cornered { let g = game_grid game.now in
         let y = point.now in
         (losses : List ℕ) → StandTo (lent game.now.sizes.now []) losses y first levels.old
         → (changed ≡ false → Cornered g losses y (num_corners g) differences.old)
@@ -53,9 +53,8 @@ fn label_points(
     differences: &mut [i64],
     buffer: &mut [u8],
 )
-    requires { PointsToLabel (lent game.now.sizes.now game.now.divisions.now) ones.now game.now.firsts.now
-        game.now.owners.now game.now.rests.now game.now.losses.now point.old levels.old differences.old buffer.old }
-    ensures { let g = lent game.now.sizes.now game.now.divisions.now in
+    requires { PointsToLabel game.now ones.now point.old levels.old differences.old buffer.old }
+    ensures { let g = game_grid game.now in
         buffer.new ≡ front (labels g game.now.losses.now) buffer.old }
 {
     let last = game.sizes.len() - 1;
@@ -79,13 +78,13 @@ fn label_points(
 
 // The labels of a game that is accepted. The divisions stand at the front of the array padded too.
 pub fn write_labels(game: &Game, padded: [u16; 6], indices: usize, buffer: &mut [u8])
-    requires fact { let g = lent game.now.sizes.now game.now.divisions.now in
+    requires fact { let g = game_grid game.now in
         (WithFirsts g game.now.firsts.now × Owners g game.now.owners.now × IsTable g game.now.losses.now
         × Rests (lent game.now.sizes.now []) game.now.rests.now) }
     requires indices_value { (indices ≡ sum game.now.sizes.now)
         × (take (length game.now.sizes.now) padded ≡ game.now.divisions.now)
-        × (length buffer.old ≡ num_points (lent game.now.sizes.now game.now.divisions.now)) }
-    ensures { let g = lent game.now.sizes.now game.now.divisions.now in
+        × (length buffer.old ≡ num_points (game_grid game.now)) }
+    ensures { let g = game_grid game.now in
         buffer.new ≡ front (labels g game.now.losses.now) buffer.old }
 {
     let blocks = game.sizes.len();

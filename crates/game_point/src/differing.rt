@@ -1,7 +1,8 @@
 // The differences p_j - q_h at a point, out of the losses of the strategies.
 ghost use Rattle.std.specs.Prelude.{List, ◌≡◌, ℕ, ◌≤◌, ◌<◌, pos, ◌-ℤ◌, length};
 ghost use Rattle.game_corners.specs.Corners.{signed_at};
-ghost use Rattle.grid_points.specs.Grid.{lent, num_indices};
+ghost use Rattle.game_weighed.specs.Levels.{game_grid};
+ghost use Rattle.grid_points.specs.Grid.{num_indices};
 ghost use Rattle.game_losses.specs.Game.{difference as difference_of, dot as dot_of};
 ghost use Rattle.game_point.specs.Label.{GameAt, OwnLosses};
 
@@ -29,11 +30,11 @@ fn signed_difference(expected: u64, replaced: u64) -> i64
 
 // The difference at index h.
 fn difference(game: &Game, point: &[u16], values: &[u64], h: usize) -> i64
-    requires { let g = lent game.now.sizes.now game.now.divisions.now in
+    requires { let g = game_grid game.now in
         ((losses : List ℕ) × GameAt g game.now.firsts.now game.now.owners.now losses point.now
         × OwnLosses g losses point.now values.now)
         × (length values.now ≡ 16) × (h < num_indices g) }
-    ensures { let g = lent game.now.sizes.now game.now.divisions.now in
+    ensures { let g = game_grid game.now in
         (losses : List ℕ) → GameAt g game.now.firsts.now game.now.owners.now losses point.now
         → OwnLosses g losses point.now values.now
         → result ≡ difference_of g losses point.now h }
@@ -47,10 +48,10 @@ fn difference(game: &Game, point: &[u16], values: &[u64], h: usize) -> i64
 }
 
 pub fn differences(game: &Game, point: &[u16], values: &[u64; 16]) -> [i64; 16]
-    requires { let g = lent game.now.sizes.now game.now.divisions.now in
+    requires { let g = game_grid game.now in
         ((losses : List ℕ) × GameAt g game.now.firsts.now game.now.owners.now losses point.now
         × OwnLosses g losses point.now values.now) }
-    ensures { let g = lent game.now.sizes.now game.now.divisions.now in
+    ensures { let g = game_grid game.now in
         (losses : List ℕ) → GameAt g game.now.firsts.now game.now.owners.now losses point.now
         → OwnLosses g losses point.now values.now
         → (h : ℕ) → h < num_indices g → signed_at result h ≡ difference_of g losses point.now h }

@@ -6,7 +6,7 @@
 ghost use Rattle.std.specs.Prelude.{[], ◌≡◌};
 ghost use Rattle.grid_points.specs.Grid.{lent};
 ghost use Rattle.game_losses.specs.Game.{game_label};
-ghost use Rattle.game_weighed.specs.Levels.{Rests};
+ghost use Rattle.game_weighed.specs.Levels.{Rests, game_grid};
 ghost use Rattle.game_point.specs.Label.{GameAt, gain_at};
 
 use game_corners::first_largest;
@@ -25,10 +25,10 @@ pub struct PointLabel {
 
 // The label of the point, which is the first index whose difference is the largest, and that difference.
 pub fn label_at(game: &Game, point: &[u16]) -> PointLabel
-    requires game_at { let g = lent game.now.sizes.now game.now.divisions.now in
+    requires game_at { let g = game_grid game.now in
         GameAt g game.now.firsts.now game.now.owners.now game.now.losses.now point.now }
     requires rests { Rests (lent game.now.sizes.now []) game.now.rests.now }
-    ensures { let g = lent game.now.sizes.now game.now.divisions.now in
+    ensures { let g = game_grid game.now in
         (result.label ≡ game_label g game.now.losses.now point.now)
         × (result.gain ≡ gain_at g game.now.losses.now point.now) }
 {

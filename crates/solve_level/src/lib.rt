@@ -31,19 +31,15 @@ pub fn run(
     ensures answer_after { let p = run_problem unit divisions.now losses.now start.now in
         answer.new ≡ front (numbers_of (answer_of p budget)) answer.old }
 {
-    let own_sizes = unit.sizes;
-    let firsts = unit.firsts;
-    let owners = unit.block;
-    let blocks = unit.blocks;
     let round = round_of(unit);
     let mut held = Held::at(start, unit.indices);
-    let sizes = &own_sizes[..blocks];
+    let sizes = &unit.sizes[..unit.blocks];
     let rests = rests(sizes);
     let game = Game {
         sizes,
         divisions,
-        firsts: &firsts,
-        owners: &owners,
+        firsts: &unit.firsts,
+        owners: &unit.block,
         rests: &rests,
         losses,
     };

@@ -4,7 +4,7 @@
 #![tactic(auto)]
 
 ghost use Rattle.std.specs.Prelude.{◌≡◌, ◌<◌, take};
-ghost use Rattle.grid_points.specs.Grid.{lent};
+ghost use Rattle.game_weighed.specs.Levels.{game_grid};
 ghost use Rattle.solve_pass.specs.Bare.{labelled};
 ghost use Rattle.solve_pass.specs.Asked.{CanLabel, CanPassGame, CanVisitGame};
 ghost use Rattle.game_losses.specs.Game.{game_label};
@@ -24,9 +24,9 @@ use ways::make_move;
 
 // The label of the point that has just come in.
 fn label_in(game: &Game, indices: usize, round: &Round, held: &Held, s: Status) -> u8
-    requires { CanLabel (lent game.now.sizes.now game.now.divisions.now) game.now.firsts.now game.now.owners.now
+    requires { CanLabel (game_grid game.now) game.now.firsts.now game.now.owners.now
         game.now.rests.now game.now.losses.now indices (state_of round.now held.now s) }
-    ensures { let g = lent game.now.sizes.now game.now.divisions.now in
+    ensures { let g = game_grid game.now in
         result ≡ game_label g game.now.losses.now (point_on g (state_of round.now held.now s) s.active) }
 {
     let mut point = held.first;
@@ -37,9 +37,9 @@ fn label_in(game: &Game, indices: usize, round: &Round, held: &Held, s: Status) 
 
 // One place: the label of the point that has just come in is worked out, and the move is made.
 fn visit(game: &Game, indices: usize, round: &Round, held: &mut Held, s: Status) -> Outcome
-    requires { CanVisitGame (lent game.now.sizes.now game.now.divisions.now) game.now.firsts.now
+    requires { CanVisitGame (game_grid game.now) game.now.firsts.now
         game.now.owners.now game.now.rests.now game.now.losses.now indices (state_of round.now held.old s) }
-    ensures { let g = lent game.now.sizes.now game.now.divisions.now in
+    ensures { let g = game_grid game.now in
         let a = state_of round.now held.old s in
         answered round.now held.new s result ≡ make_move (labelled g game.now.losses.now a) }
 {
@@ -53,9 +53,9 @@ fn visit(game: &Game, indices: usize, round: &Round, held: &mut Held, s: Status)
 // From {v} to the path's end, or until the budget is spent. From the budget's last place the pass does not move on, so
 // that the labels read stay within the budget, which may be any number.
 pub fn pass(game: &Game, indices: usize, round: &Round, held: &mut Held, budget: u64) -> Finish
-    requires { CanPassGame (lent game.now.sizes.now game.now.divisions.now) game.now.firsts.now game.now.owners.now
+    requires { CanPassGame (game_grid game.now) game.now.firsts.now game.now.owners.now
         game.now.rests.now game.now.losses.now indices round.now held.old }
-    ensures { let g = lent game.now.sizes.now game.now.divisions.now in
+    ensures { let g = game_grid game.now in
         Finished (game_problem g (take indices held.old.first) game.now.losses.now) budget round.now held.new result }
 {
     let mut at = begun(held, indices);

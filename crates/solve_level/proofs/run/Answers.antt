@@ -2,6 +2,7 @@
 use Rattle.std.proofs.Common.{List, sym, ap, ◌∙◌, ℕ}
 use lib.Seq.{length-take-le}
 use Rattle.combinatorics.specs.Front.{front}
+use Rattle.grid.proofs.Fields.{blocks-range}
 use Rattle.solve_level.proofs.Answers.{FinishedBy, can_announce, can_pad, can_pass, finish_told, finish_written}
 use Rattle.solve_level.proofs.Answers.{blocks-room, finished_from}
 use Rattle.solve_level.proofs.run.Goals as goal
@@ -17,8 +18,8 @@ finished c =
 pub at-held-requires : goal.at-held-requires
 at-held-requires c = can_pad c.requires
 
-pub slice_bounds-own_sizes-end : goal.slice_bounds-own_sizes-end
-slice_bounds-own_sizes-end c = blocks-room c.requires
+pub shared_ref_as_front-sizes : goal.shared_ref_as_front-sizes
+shared_ref_as_front-sizes c = (blocks-range c.args.unit c.requires.made).1
 
 pub slice_bounds-sizes-end : goal.slice_bounds-sizes-end
 slice_bounds-sizes-end c = sym (length-take-le _ _ (blocks-room c.requires))

@@ -8,8 +8,8 @@ use lib.ListN.{length, take, set, replicate}
 use lib.Seq.{length-take-le}
 use Rattle.combinatorics.specs.Front.{front}
 use Rattle.grid_points.proofs.Accepted.{Accepted, accepted}
-use Rattle.grid_points.specs.Grid.{Grid, Point, num_indices, first_index, lent}
-use Rattle.game_weighed.specs.Levels.{StandTo}
+use Rattle.grid_points.specs.Grid.{Grid, Point, num_indices, first_index}
+use Rattle.game_weighed.specs.Levels.{StandTo, game_grid}
 use Rattle.game_losses.specs.AtPoint.{StrategiesStand}
 use Rattle.game_losses.specs.Game.{player_loss, replaced_loss}
 use Rattle.points_in_order.specs.Lent.{PointWithFirsts}
@@ -23,7 +23,7 @@ use Rattle.game_corners.proofs.weighing.weigh_corner.Goals.{Start, After-from-fi
 -- what is known of the game
 module _ (s : Start) where
   abbrev g : Grid
-  g = lent s.args.game.now.sizes.now s.args.game.now.divisions.now
+  g = game_grid s.args.game.now
 
   abbrev game : CornersToWeigh g s.args.game.now.firsts.now s.args.game.now.owners.now s.requires.0.0 s.args.point.now
       s.args.levels.now s.args.differences.now

@@ -12,6 +12,7 @@ use lib.ListN.{length}
 use Rattle.combinatorics.proofs.Basics.{absurd_bool}
 use Rattle.combinatorics.proofs.Fronts.{front-none, front-whole}
 use Rattle.game_corners.proofs.CornerLabels.{lent_rows, lent-label}
+use Rattle.game_weighed.specs.Levels.{game_grid}
 use Rattle.game_corners.proofs.CornerLosses.{last-ends, cornered_kept}
 use Rattle.game_corners.specs.Corners.{last_player}
 use Rattle.grid_points.proofs.Accepted.{Accepted, accepted, blocks-few}
@@ -30,7 +31,7 @@ use Rattle.game_labels.proofs.game.label_points.Goals.{Start, In-loop-label}
 -- what is known of the game
 module _ (s : Start) where
   abbrev g : Grid
-  g = lent s.args.game.now.sizes.now s.args.game.now.divisions.now
+  g = game_grid s.args.game.now
 
   yes : Accepted g
   yes = accepted g s.requires.grid.accepted
@@ -99,7 +100,8 @@ load_losses-requires c = (
     record {
       grid = c.requires.grid;
       owned = c.requires.owned;
-      rested = λ l j a b. c.requires.rested l j a b ∙ behind-alike c.args.game.now.sizes.now [] c.args.game.now.divisions.now j l;
+      rested = λ l j a b. c.requires.rested l j a b
+          ∙ behind-alike c.args.game.now.sizes.now [] c.args.game.now.divisions.now j l;
       table = c.requires.table;
       is_count = c.num_profiles-count.ensures;
       whole = c.requires.numbers;
@@ -158,8 +160,8 @@ label_point-requires c =
     let s = (goal.at.label_point-requires c).Start in
     let i = c.loop-label.invariant in
     let stand = c.weigh_changed.ensures.cornered c.args.game.now.losses.now i.stand i.corners in
-    let rows = lent_rows (g s) c.args.game.now.firsts.now c.args.game.now.losses.now c.args.ones.now c.requires.ones_are c.loop-label.point
-    (here w) _ stand c.from-from.result (begins w) (omega arith) in
+    let rows = lent_rows (g s) c.args.game.now.firsts.now c.args.game.now.losses.now c.args.ones.now
+    c.requires.ones_are c.loop-label.point (here w) _ stand c.from-from.result (begins w) (omega arith) in
     (omega (arith, long w, blocks-few (g s) (yes s), (yes s).some_block), rw (long w) rows)
 
 pub next_point-first-requires : goal.next_point-first-requires
@@ -179,8 +181,8 @@ loop-label-preserved c =
     let z : Point = a.new.point in
     let label = c.label_point in
     let is : label.result ≡ game_label (g s) losses c.loop-label.point = label.ensures
-    ∙ rw (long w) (lent-label (g s) c.args.game.now.firsts.now losses c.args.ones.now c.requires.ones_are c.loop-label.point
-    (here w) _ stand c.from-from.result (begins w)) in
+    ∙ rw (long w) (lent-label (g s) c.args.game.now.firsts.now losses c.args.ones.now c.requires.ones_are
+    c.loop-label.point (here w) _ stand c.from-from.result (begins w)) in
     let ended : ltb a.result (length ss - 1) ≡ false → a.result ≡ last_player (g s) = λ f.
     omega (arith, ltb-false a.result (length ss - 1) f, a.ensures.upper_bound.0) in
     record {
@@ -188,7 +190,8 @@ loop-label-preserved c =
           (label-written (g s) c.loop-label.label-index losses c.args.buffer.now (inside w) c.requires.whole c.loop-label.point
           (i.here (inside w)));
       here = λ h. a.ensures.point_after
-          ∙ next-point (g s) c.args.game.now.firsts.now c.requires.grid c.loop-label.label-index h c.loop-label.point (i.here (inside w));
+          ∙ next-point (g s) c.args.game.now.firsts.now c.requires.grid c.loop-label.label-index h c.loop-label.point
+          (i.here (inside w));
       long = omega (arith, i.long);
       stand = levels_kept (lent ss []) losses c.loop-label.point z a.result (length ss - 1) v.new.levels
           (omega (arith, a.ensures.upper_bound.0)) a.ensures.upper_bound.1 (v.ensures.stand_to losses i.stand);

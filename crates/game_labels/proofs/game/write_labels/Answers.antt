@@ -7,15 +7,15 @@ use Prim.Native.Nat.{ℕ, ◌-◌, ◌≤◌}
 use lib.ListN.{length, set, length-set, length-take, length-replicate}
 use lib.Seq.{length-take-le, take-set-lt}
 use Rattle.grid_points.proofs.Accepted.{Accepted, accepted}
-use Rattle.grid_points.specs.Grid.{lent}
+use Rattle.game_weighed.specs.Levels.{game_grid}
 use Rattle.points_in_order.proofs.PointAfter.{first_array}
 use Rattle.game_labels.proofs.game.write_labels.Goals as goal
 use Rattle.game_labels.proofs.game.write_labels.Goals.{Start}
 
 -- what is known of the game
 module _ (s : Start) where
-  yes : Accepted (lent s.args.game.now.sizes.now s.args.game.now.divisions.now)
-  yes = accepted (lent s.args.game.now.sizes.now s.args.game.now.divisions.now) s.requires.fact.0.accepted
+  yes : Accepted (game_grid s.args.game.now)
+  yes = accepted (game_grid s.args.game.now) s.requires.fact.0.accepted
 
   -- the array has an entry for each division
   long : length s.args.game.now.sizes.now ≤ length s.args.padded
@@ -45,15 +45,17 @@ slice_bounds-label_points-end c =
 
 pub slice_bounds-point-end : goal.slice_bounds-point-end
 slice_bounds-point-end c =
-    rw (c.first_point.ensures, (first_array c.args.game.now.sizes.now c.args.game.now.divisions.now (yes (goal.at.slice_bounds-point-end c).Start)).0)
-    (omega (arith, c.requires.indices_value.0, (yes (goal.at.slice_bounds-point-end c).Start).few_indices))
+    let a = yes (goal.at.slice_bounds-point-end c).Start in
+    rw (c.first_point.ensures, (first_array c.args.game.now.sizes.now c.args.game.now.divisions.now a).0)
+    (omega (arith, c.requires.indices_value.0, a.few_indices))
 
 pub slice_bounds-label_points-end-2 : goal.slice_bounds-label_points-end-2
 slice_bounds-label_points-end-2 c =
+    let a = yes (goal.at.slice_bounds-label_points-end-2 c).Start in
     let room : c.args.indices ≤ length c.first_point.new.point = rw (
       c.first_point.ensures,
-      (first_array c.args.game.now.sizes.now c.args.game.now.divisions.now (yes (goal.at.slice_bounds-label_points-end-2 c).Start)).0,
-    ) (omega (arith, c.requires.indices_value.0, (yes (goal.at.slice_bounds-label_points-end-2 c).Start).few_indices)) in
+      (first_array c.args.game.now.sizes.now c.args.game.now.divisions.now a).0,
+    ) (omega (arith, c.requires.indices_value.0, a.few_indices)) in
     sym (length-take-le c.args.indices c.first_point.new.point room)
 
 pub label_points-requires : goal.label_points-requires

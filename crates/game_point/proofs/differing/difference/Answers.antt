@@ -7,7 +7,8 @@ use mir.Syntax.{w64}
 use mir.Val.{SFits}
 use lib.ListN.{length}
 use Rattle.grid_points.proofs.Round.{block_spans}
-use Rattle.grid_points.specs.Grid.{Grid, at, block_of, division, first_index, lent, num_indices}
+use Rattle.game_weighed.specs.Levels.{game_grid}
+use Rattle.grid_points.specs.Grid.{Grid, at, block_of, division, first_index, num_indices}
 use Rattle.game_point.proofs.Compared.{ends, expected_here, expected_low, lengths, replaced-here, replaced-low}
 use Rattle.game_point.specs.Label.{GameAt}
 use borrow.Author.Rules.{rules}
@@ -17,7 +18,7 @@ use Rattle.game_point.proofs.differing.difference.Goals.{After-from-owner, After
 -- what is known once the owner is read
 module _ (c : After-from-owner) where
   abbrev g : Grid
-  g = lent c.args.game.now.sizes.now c.args.game.now.divisions.now
+  g = game_grid c.args.game.now
 
   abbrev game : GameAt g c.args.game.now.firsts.now c.args.game.now.owners.now c.requires.0.0
       c.args.point.now

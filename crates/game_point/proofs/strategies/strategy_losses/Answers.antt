@@ -11,7 +11,8 @@ use Rattle.game_point.proofs.strategies.strategy_losses.Goals as goal
 use Rattle.game_point.proofs.strategies.strategy_losses.Goals.{Start}
 
 long : (c : Start) → length c.args.point.now ≡ num_indices (lent c.args.game.now.sizes.now [])
-long c = point-long (lent c.args.game.now.sizes.now c.requires.by_index.0) c.args.point.now c.requires.by_index.1.is_point
+long c =
+    point-long (lent c.args.game.now.sizes.now c.requires.by_index.0) c.args.point.now c.requires.by_index.1.is_point
 
 pub strategy_loss-requires-clause-count_value : goal.strategy_loss-requires-clause-count_value
 strategy_loss-requires-clause-count_value c = (

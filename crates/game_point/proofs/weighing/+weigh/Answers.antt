@@ -22,8 +22,8 @@ module _ (t : ℕ) (c : In-loop-k t) where
   abbrev g : Grid
   g = lent c.args.game.now.sizes.now []
 
-  can : CanWeighLosses g c.args.game.now.firsts.now c.args.game.now.rests.now c.args.point.now c.args.losses.now c.args.player
-      c.args.block
+  can : CanWeighLosses g c.args.game.now.firsts.now c.args.game.now.rests.now c.args.point.now c.args.losses.now
+      c.args.player c.args.block
   can = c.requires
 
   other : c.args.block ≡ c.args.player → ⊥
@@ -87,7 +87,8 @@ returns-then-block-player t c =
     let h : c.args.block < length c.args.game.now.sizes.now = omega (arith, c.requires.inside) in
     c.weigh.ensures
     ∙ ap (λ u. dot u c.args.losses.now)
-    (sym (from-own (lent c.args.game.now.sizes.now []) c.args.point.now c.args.player c.args.block h c.if-block-player.true))
+    (sym (from-own (lent c.args.game.now.sizes.now []) c.args.point.now c.args.player c.args.block h
+    c.if-block-player.true))
 
 pub overflow_mul-at : goal.overflow_mul-at
 overflow_mul-at t c = omega (arith, row t c)

@@ -172,9 +172,9 @@ loop-h-preserved c =
     let ss = c.args.game.now.sizes.now in
     let ds = c.requires.1.0 in
     λ y. stand-alike ss ds [] c.args.game.now.losses.now y 0 (l.h + 1) c.load_table.new.levels
-    (load_turn (g s) (yes s) c.args.game.now.losses.now y l.h (inside (goal.at.loop-h-preserved c).After-from-owner) l.levels _
-    (part w) (length (part w)) (part_long w) (part_at w) c.load_table.ensures
-    (stand-alike ss [] ds c.args.game.now.losses.now y 0 l.h l.levels (l.invariant y)))
+    (load_turn (g s) (yes s) c.args.game.now.losses.now y l.h
+    (inside (goal.at.loop-h-preserved c).After-from-owner) l.levels _ (part w) (length (part w)) (part_long w)
+    (part_at w) c.load_table.ensures (stand-alike ss [] ds c.args.game.now.losses.now y 0 l.h l.levels (l.invariant y)))
 
 pub returns : goal.returns
 returns c =

@@ -28,7 +28,8 @@ weigh_index-requires c =
     IndexToWeigh o a.mix.now l.levels a.level l.h (at a.game.now.rests.now ((a.level + 1) * 6 + o)))
     (sym c.from-owner.ensures)
     (index_kept (at a.game.now.owners.now l.h) a.mix.now a.levels.now a.level l.h
-    (rest_at a.game.now.owners.now a.game.now.rests.now a.level l.h) (ready (goal.at.weigh_index-requires c).After-from-owner).1
+    (rest_at a.game.now.owners.now a.game.now.rests.now a.level l.h)
+    (ready (goal.at.weigh_index-requires c).After-from-owner).1
     l.levels l.invariant.kept (omega arith))
 
 pub loop-h-preserved : goal.loop-h-preserved
