@@ -2,12 +2,12 @@
 ghost use Rattle.std.specs.Prelude.{List, ◌≡◌, ℕ, ◌+◌, ◌≤◌, ◌<◌, length, take, set, replicate};
 ghost use Rattle.combinatorics.specs.Front.{front};
 ghost use Rattle.game_corners.specs.Corners.{last_player, num_corners, Cornered, CornersToWeigh};
-ghost use Rattle.grid_points.specs.Grid.{lent};
-ghost use Rattle.game_weighed.specs.Levels.{StandTo};
+ghost use Rattle.game_weighed.specs.Levels.{StandTo, game_grid};
 
 use crate::largest;
 use crate::picking::pick;
 use game_losses::weigh_point;
+use game_weighed::Game;
 
 // The point with 1 at index h and nothing else from index first on.
 fn corner(point: &[u16], first: usize, h: usize) -> [u16; 16]
@@ -22,38 +22,30 @@ fn corner(point: &[u16], first: usize, h: usize) -> [u16; 16]
 
 // The differences at corner k come to those at the corners before it. The losses of the strategies there stand on the
 // last level.
-fn weigh_corner(
-    sizes: &[u8],
-    ones: &[u16],
-    firsts: &[u8; 6],
-    owners: &[u8; 16],
-    point: &[u16],
-    levels: &[u32],
-    k: usize,
-    differences: &mut [i64],
-)
-    requires { let g = lent sizes.now ones.now in
+fn weigh_corner(game: &Game, point: &[u16], levels: &[u32], k: usize, differences: &mut [i64])
+    requires { let g = game_grid game.now in
         ((losses : List ℕ)
-        × CornersToWeigh g firsts.now owners.now losses point.now levels.now differences.old)
+        × CornersToWeigh g game.now.firsts.now game.now.owners.now losses point.now levels.now
+        differences.old)
         × (k < num_corners g) }
-    ensures { let g = lent sizes.now ones.now in
+    ensures { let g = game_grid game.now in
         let y = point.now in
         (losses : List ℕ) → StandTo g losses y (last_player g) levels.now
         → Cornered g losses y k differences.old → Cornered g losses y (k + 1) differences.new }
 {
     let indices = point.len();
-    let last = sizes.len() - 1;
-    let first = usize::from(firsts[last]);
+    let last = game.sizes.len() - 1;
+    let first = usize::from(game.firsts[last]);
     let corner = corner(point, first, first + k);
     let at = k * 16;
     let mut values = [0u32; 16];
     let mut expected = [0u32; 16];
     let mut replaced = [0u32; 16];
-    pick(owners, levels, last, k, indices, &mut values);
+    pick(game.owners, levels, last, k, indices, &mut values);
     weigh_point(
-        sizes,
-        ones,
-        firsts,
+        game.sizes,
+        game.divisions,
+        game.firsts,
         &corner[..indices],
         &values,
         &mut expected,
@@ -62,26 +54,19 @@ fn weigh_corner(
     largest::put_differences(&mut differences[at..at + 16], &expected, &replaced);
 }
 
-// The differences at all corners of the point.
-pub fn weigh_corners(
-    sizes: &[u8],
-    ones: &[u16],
-    firsts: &[u8; 6],
-    owners: &[u8; 16],
-    point: &[u16],
-    levels: &[u32],
-    differences: &mut [i64],
-)
-    requires { let g = lent sizes.now ones.now in
+// The differences at all corners of the point, in the game with 1 as the last division.
+pub fn weigh_corners(game: &Game, point: &[u16], levels: &[u32], differences: &mut [i64])
+    requires { let g = game_grid game.now in
         (losses : List ℕ)
-        × CornersToWeigh g firsts.now owners.now losses point.now levels.now differences.old }
-    ensures { let g = lent sizes.now ones.now in
+        × CornersToWeigh g game.now.firsts.now game.now.owners.now losses point.now levels.now
+        differences.old }
+    ensures { let g = game_grid game.now in
         let y = point.now in
         (losses : List ℕ) → StandTo g losses y (last_player g) levels.now
         → Cornered g losses y (num_corners g) differences.new }
 {
-    let size = usize::from(sizes[sizes.len() - 1]);
+    let size = usize::from(game.sizes[game.sizes.len() - 1]);
     for k in 0..size {
-        weigh_corner(sizes, ones, firsts, owners, point, levels, k, differences);
+        weigh_corner(game, point, levels, k, differences);
     }
 }

@@ -8,6 +8,7 @@ ghost use Rattle.game_losses.specs.Table.{IsTable};
 ghost use Rattle.game_labels.specs.Labelling.{label_answer, label_buffer};
 
 use game_losses::{in_range, num_profiles};
+use game_weighed::{Game, rests};
 use grid::Grid;
 
 mod game;
@@ -52,14 +53,14 @@ pub fn label_on(grid: Grid, losses: &[u16], buffer: &mut [u8])
 {
     let sizes = &grid.sizes[..grid.blocks];
     let divisions = &grid.divisions[..grid.blocks];
-    game::write_labels(
+    let rests = rests(sizes);
+    let game = Game {
         sizes,
         divisions,
-        grid.divisions,
-        &grid.firsts,
-        &grid.block,
+        firsts: &grid.firsts,
+        owners: &grid.block,
+        rests: &rests,
         losses,
-        grid.indices,
-        buffer,
-    );
+    };
+    game::write_labels(&game, grid.divisions, grid.indices, buffer);
 }

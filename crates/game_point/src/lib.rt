@@ -6,10 +6,11 @@
 ghost use Rattle.std.specs.Prelude.{[], ◌≡◌};
 ghost use Rattle.grid_points.specs.Grid.{lent};
 ghost use Rattle.game_losses.specs.Game.{game_label};
-ghost use Rattle.game_weighed.specs.Levels.{Rests};
+ghost use Rattle.game_weighed.specs.Levels.{Rests, game_grid};
 ghost use Rattle.game_point.specs.Label.{GameAt, gain_at};
 
 use game_corners::first_largest;
+use game_weighed::Game;
 
 mod differing;
 mod strategies;
@@ -23,23 +24,16 @@ pub struct PointLabel {
 }
 
 // The label of the point, which is the first index whose difference is the largest, and that difference.
-pub fn label_at(
-    sizes: &[u8],
-    divisions: &[u16],
-    firsts: &[u8; 6],
-    owners: &[u8; 16],
-    rests: &[usize; 36],
-    losses: &[u16],
-    point: &[u16],
-) -> PointLabel
-    requires game_at { GameAt (lent sizes.now divisions.now) firsts.now owners.now losses.now point.now }
-    requires rests { Rests (lent sizes.now []) rests.now }
-    ensures { let g = lent sizes.now divisions.now in
-        (result.label ≡ game_label g losses.now point.now)
-        × (result.gain ≡ gain_at g losses.now point.now) }
+pub fn label_at(game: &Game, point: &[u16]) -> PointLabel
+    requires game_at { let g = game_grid game.now in
+        GameAt g game.now.firsts.now game.now.owners.now game.now.losses.now point.now }
+    requires rests { Rests (lent game.now.sizes.now []) game.now.rests.now }
+    ensures { let g = game_grid game.now in
+        (result.label ≡ game_label g game.now.losses.now point.now)
+        × (result.gain ≡ gain_at g game.now.losses.now point.now) }
 {
-    let values = strategies::strategy_losses(sizes, firsts, owners, rests, losses, point);
-    let differences = differing::differences(sizes, divisions, firsts, owners, point, &values);
+    let values = strategies::strategy_losses(game, point);
+    let differences = differing::differences(game, point, &values);
     let i = first_largest(&differences, point.len());
     PointLabel {
         label: (i + 1) as u8,

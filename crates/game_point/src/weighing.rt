@@ -5,6 +5,8 @@ ghost use Rattle.game_losses.specs.Game.{dot as dot_of};
 ghost use Rattle.game_weighed.specs.Levels.{Rests, behind};
 ghost use Rattle.game_point.specs.Weighing.{weights_from, CanWeighLosses};
 
+use game_weighed::Game;
+
 // How many profiles the player's opponents have behind a block: 1 behind the last of six, for which the array has none.
 fn rest_behind(rests: &[usize; 36], player: usize, block: usize) -> usize
     requires { (player < 6) × (block < 6) }
@@ -17,40 +19,25 @@ fn rest_behind(rests: &[usize; 36], player: usize, block: usize) -> usize
 }
 
 // The losses, one for each profile of the player's opponents from a block on, weighed by their mixes.
-pub fn weigh(
-    sizes: &[u8],
-    firsts: &[u8; 6],
-    rests: &[usize; 36],
-    point: &[u16],
-    losses: &[u16],
-    player: usize,
-    block: usize,
-) -> u64
-    requires { CanWeighLosses (lent sizes.now []) firsts.now rests.now point.now losses.now player block }
-    ensures { result ≡ dot_of (weights_from (lent sizes.now []) point.now player block)
+pub fn weigh(game: &Game, point: &[u16], losses: &[u16], player: usize, block: usize) -> u64
+    requires { CanWeighLosses (lent game.now.sizes.now []) game.now.firsts.now game.now.rests.now point.now losses.now
+        player block }
+    ensures { result ≡ dot_of (weights_from (lent game.now.sizes.now []) point.now player block)
         losses.now }
 {
-    if block == sizes.len() {
+    if block == game.sizes.len() {
         return u64::from(losses[0]);
     }
     if block == player {
-        return weigh(sizes, firsts, rests, point, losses, player, block + 1);
+        return weigh(game, point, losses, player, block + 1);
     }
-    let first = usize::from(firsts[block]);
-    let size = usize::from(sizes[block]);
-    let rest = rest_behind(rests, player, block);
+    let first = usize::from(game.firsts[block]);
+    let size = usize::from(game.sizes[block]);
+    let rest = rest_behind(game.rests, player, block);
     let mut total: u64 = 0;
     for k in 0..size {
         let at = k * rest;
-        let value = weigh(
-            sizes,
-            firsts,
-            rests,
-            point,
-            &losses[at..at + rest],
-            player,
-            block + 1,
-        );
+        let value = weigh(game, point, &losses[at..at + rest], player, block + 1);
         total += u64::from(point[first + k]) * value;
     }
     total

@@ -3,11 +3,16 @@
 -- do not cite this. Assumes nothing.
 use Rattle.std.specs.Prelude.{true, cond, List, [], ◌∷◌, map, ◌≡◌, ℕ, suc, ◌+◌, ◌-◌, ◌*◌, ◌≤◌, ◌<◌, eqb, length}
 use Rattle.combinatorics.specs.Lists.{all, up_from}
-use Rattle.grid_points.specs.Grid.{Grid, Point, at, num_blocks, num_indices, size, first_index, block_of}
+use Rattle.grid_points.specs.Grid.{Grid, Point, at, num_blocks, num_indices, size, first_index, block_of, lent}
 use Rattle.points_in_order.specs.Lent.{WithFirsts, PointWithFirsts}
 use Rattle.game_losses.specs.Game.{product, mix}
 use Rattle.game_losses.specs.Table.{in_range, IsTable}
 use Rattle.game_losses.specs.Weights.{weights}
+use Rattle.game_weighed.specs.declared.game.Game.{Game}
+
+-- the grid of a game that is lent
+abbrev pub game_grid : Game → Grid
+game_grid game = lent game.sizes.now game.divisions.now
 
 -- the sum of f 0, f 1, .. weighed by a mix
 abbrev pub blend : List ℕ → (ℕ → ℕ) → ℕ

@@ -4,11 +4,13 @@
 // so that a point that keeps the mixes before a block keeps the levels up to it.
 #![tactic(auto)]
 
+mod game;
 mod lengths;
 mod load;
 mod tables;
 mod weighing;
 
+pub use game::Game;
 pub use lengths::rests;
 pub use load::load_losses;
 pub use weighing::weigh_levels;

@@ -20,7 +20,7 @@ use Rattle.grid.proofs.Fields.{made-indices}
 use Rattle.grid.specs.Made.{grid_of, shape}
 use Rattle.grid.specs.declared.Grid.{Grid as GridStruct}
 use Rattle.grid_points.proofs.Points.{point-long}
-use Rattle.grid_points.specs.Grid.{Grid, dimension, lent, next, num_indices, previous, size}
+use Rattle.grid_points.specs.Grid.{Grid, dimension, lent, next, num_indices, previous}
 use Rattle.solve_pass.specs.Asked.{CanPassGame}
 use Rattle.game_weighed.specs.Levels.{Rests}
 use Rattle.moves.specs.Held.{state_of}

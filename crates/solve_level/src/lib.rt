@@ -11,7 +11,7 @@ ghost use Rattle.place.specs.Path.{answer as answer_of};
 
 use arrays::round_of;
 use finder::{RunAnswer, announce};
-use game_weighed::rests;
+use game_weighed::{Game, rests};
 use grid::Grid;
 use moves::Held;
 use solve_pass::pass;
@@ -31,24 +31,18 @@ pub fn run(
     ensures answer_after { let p = run_problem unit divisions.now losses.now start.now in
         answer.new ≡ front (numbers_of (answer_of p budget)) answer.old }
 {
-    let own_sizes = unit.sizes;
-    let firsts = unit.firsts;
-    let owners = unit.block;
-    let blocks = unit.blocks;
     let round = round_of(unit);
     let mut held = Held::at(start, unit.indices);
-    let lengths = rests(&own_sizes[..blocks]);
-    let finish = pass(
-        &own_sizes[..blocks],
+    let sizes = &unit.sizes[..unit.blocks];
+    let rests = rests(sizes);
+    let game = Game {
+        sizes,
         divisions,
-        &firsts,
-        &owners,
-        &lengths,
+        firsts: &unit.firsts,
+        owners: &unit.block,
+        rests: &rests,
         losses,
-        unit.indices,
-        &round,
-        &mut held,
-        budget,
-    );
+    };
+    let finish = pass(&game, unit.indices, &round, &mut held, budget);
     announce(unit, &round, &held, finish, answer, budget)
 }

@@ -16,7 +16,7 @@ use Rattle.grid.proofs.Fields.{made-accepted, made-blocks}
 use Rattle.grid_points.specs.Grid.{position}
 use Rattle.grid.specs.Made.{IsMade}
 use Rattle.grid.specs.declared.Grid.{Grid as GridStruct}
-use Rattle.moves.specs.Held.{state_of}
+use Rattle.moves.specs.Held.{state_of, with_marks}
 use Rattle.moves.specs.declared.holding.Held.{Held}
 use Rattle.moves.specs.declared.Status.{Status}
 use Rattle.place.specs.Places.{Simplex}
@@ -32,7 +32,6 @@ use Rattle.trail.specs.Trail.{begins, rebuilt_from}
 use Rattle.trail_steps.proofs.Reached.{Arrives, stored}
 use Rattle.marks.specs.Reading.{CanFind}
 use Rattle.trail_steps.specs.Shows.{Shows}
-use Rattle.moves.specs.Held.{with_marks}
 use Rattle.trail_steps.proofs.Arrived.{OnlyPlace, WayLeads, goes_on, inside, leads_nowhere, leads_on, not_there}
 use Rattle.trail_steps.proofs.Arrived.{position-low, record_is}
 use Rattle.trail_steps.proofs.Named.{shows-few}

@@ -5,12 +5,11 @@
 ghost use Rattle.std.specs.Prelude.{map, ◌≡◌, suc, ◌+◌, ◌*◌, ◌≤◌, ◌<◌, drop, get_or, length, take};
 ghost use Rattle.combinatorics.specs.Edits.{found};
 ghost use Rattle.marks.specs.Reading.{CanFind};
-ghost use Rattle.moves.specs.Held.{state_of};
+ghost use Rattle.moves.specs.Held.{state_of, with_marks};
 ghost use Rattle.positions.specs.Binomials.{Measured};
 ghost use Rattle.rules.specs.Moves.{mark_position};
 ghost use Rattle.trail_steps.specs.Reading.{CanCompare, bytes_standing, come_position, joining, leaving};
 ghost use Rattle.trail_steps.specs.Reading.{marks_with, way_of};
-ghost use Rattle.moves.specs.Held.{with_marks};
 ghost use Rattle.ways.specs.Ways.{held_marks};
 
 use arrays::{has, position_at};

@@ -3,7 +3,6 @@
 #![tactic(auto)]
 
 ghost use Rattle.std.specs.Prelude.{◌≡◌};
-ghost use Rattle.walk_preview.specs.Changes.{no_change};
 ghost use Rattle.walk_numbers.specs.Answered.{after_beginning, after_moving, after_pointing};
 ghost use Rattle.walk_numbers.specs.Answered.{after_showing, answered_by, unanswered};
 
@@ -83,15 +82,6 @@ fn answered_by(walk: Walk, answer: WalkAnswer, simplex: [u16; 256], change: Chan
     }
 }
 
-fn unchanged() -> Change
-    ensures { result ≡ no_change }
-{
-    Change {
-        map: 0,
-        fields: [0u32; 6],
-    }
-}
-
 // The moving call.
 pub fn after_moving(s: Answered, labels: &[u8]) -> Answered
     ensures { result ≡ after_moving s labels.now }
@@ -101,7 +91,7 @@ pub fn after_moving(s: Answered, labels: &[u8]) -> Answered
         simplex,
         walk,
     } = moved(s.walk, labels);
-    answered_by(walk, answer, simplex, unchanged())
+    answered_by(walk, answer, simplex, Change::none())
 }
 
 // The preview: the walk is as it was.

@@ -32,7 +32,10 @@ pub fn kept_as(first: &[u16; 16], m: usize, order: &[u32; 16], n: usize) -> Plac
 
 // What is held of a place that is kept, before its coefficients and marks are found.
 pub fn held_in(p: Place) -> Held
-    ensures { (result.first ≡ p.first) × (result.order ≡ p.order) }
+    ensures { (result.first ≡ p.first)
+        × (result.order ≡ p.order)
+        × (result.coefficients ≡ replicate 16 0)
+        × (result.marks ≡ replicate 16 0) }
 {
     let first = p.first;
     let order = p.order;

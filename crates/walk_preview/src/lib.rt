@@ -1,6 +1,9 @@
 // The move shown before it is made.
 #![tactic(auto)]
 
+ghost use Rattle.std.specs.Prelude.{◌≡◌};
+ghost use Rattle.walk_preview.specs.Changes.{no_change};
+
 mod changes;
 mod showing;
 
@@ -14,6 +17,18 @@ use walk_ways::WalkAnswer;
 pub struct Change {
     pub map: u8,
     pub fields: [u32; 6],
+}
+
+impl Change {
+    // No move: nothing changes.
+    pub fn none() -> Change
+        ensures { result ≡ no_change }
+    {
+        Change {
+            map: 0,
+            fields: [0u32; 6],
+        }
+    }
 }
 
 // The answer that the moving call would give, the simplex of an end, and what the move would change.

@@ -2,7 +2,6 @@
 ghost use Rattle.std.specs.Prelude.{List, ◌≡◌, ℕ};
 ghost use Rattle.walks.specs.Preview.{preview as preview_of};
 ghost use Rattle.walk_places.specs.Walks.{walk_of};
-ghost use Rattle.walk_preview.specs.Changes.{no_change};
 ghost use Rattle.walk_preview.specs.Previews.{CanShow, MovesTo, change_in, change_on, shown_as};
 
 use crate::changes::{change_for, index_of, other};
@@ -11,16 +10,6 @@ use grid::Grid;
 use walk_calls::{Call, grid_in, moved};
 use walk_places::{Place, Walk, both_placed};
 use walk_ways::WalkAnswer;
-
-// No move: nothing changes.
-fn unchanged() -> Change
-    ensures { result ≡ no_change }
-{
-    Change {
-        map: 0,
-        fields: [0u32; 6],
-    }
-}
 
 // What changes from the walk's present place to the next, whatever the table over which a call moves it so: the points
 // are told by their positions, and no label is read.
@@ -54,7 +43,7 @@ pub fn preview(w: Walk, labels: &[u8]) -> Shown
     } = moved(w, labels);
     let change = match answer {
         WalkAnswer::Moved(rule) => change_in(w, walk.present, rule),
-        WalkAnswer::Refused(_) | WalkAnswer::Ended { .. } => unchanged(),
+        WalkAnswer::Refused(_) | WalkAnswer::Ended { .. } => Change::none(),
     };
     Shown {
         answer,

@@ -9,10 +9,11 @@ use mir.Syntax.{w64}
 use mir.Val.{SFits}
 use Rattle.combinatorics.specs.Lists.{up_from}
 use Rattle.game_losses.proofs.FirstLargest.{largest_agree}
+use Rattle.game_weighed.specs.Levels.{game_grid}
 use Rattle.game_corners.specs.Corners.{signed_at}
 use Rattle.grid_points.proofs.Points.{point-long}
 use Rattle.grid_points.proofs.Round.{block-fits}
-use Rattle.grid_points.specs.Grid.{lent, num_indices}
+use Rattle.grid_points.specs.Grid.{num_indices}
 use Rattle.game_losses.specs.Game.{difference, first_largest, game_label}
 use Rattle.game_point.proofs.Bounds.{size-two}
 use borrow.Author.Rules.{rules}
@@ -20,13 +21,13 @@ use Rattle.game_point.proofs.label_at.Goals as goal
 use Rattle.game_point.proofs.label_at.Goals.{After-first_largest-i, Start}
 
 long : (c : Start)
-    → length c.args.point.now ≡ num_indices (lent c.args.sizes.now c.args.divisions.now)
-long c = point-long (lent c.args.sizes.now c.args.divisions.now) c.args.point.now c.requires.game_at.is_point
+    → length c.args.point.now ≡ num_indices (game_grid c.args.game.now)
+long c = point-long (game_grid c.args.game.now) c.args.point.now c.requires.game_at.is_point
 
 some : (c : Start) → 0 < length c.args.point.now
 some c =
     let game = c.requires.game_at in
-    omega (arith, long c, block-fits c.args.sizes.now 0, size-two game 0 game.grid.some_block)
+    omega (arith, long c, block-fits c.args.game.now.sizes.now 0, size-two game 0 game.grid.some_block)
 
 pub first_largest-i-requires : goal.first_largest-i-requires
 first_largest-i-requires c =
@@ -49,19 +50,19 @@ bounds-differences-i c = index-low c
 
 difference-at : (c : After-first_largest-i) (h : ℕ) → h < length c.args.point.now
     → signed_at c.differences-differences.result h
-    ≡ difference (lent c.args.sizes.now c.args.divisions.now) c.args.losses.now
+    ≡ difference (game_grid c.args.game.now) c.args.game.now.losses.now
     c.args.point.now h
 difference-at c h l =
-    c.differences-differences.ensures c.args.losses.now c.requires.game_at
+    c.differences-differences.ensures c.args.game.now.losses.now c.requires.game_at
     c.strategy_losses-values.ensures h (omega (arith, long (goal.at.After-first_largest-i c).Start))
 
 label_is : (c : After-first_largest-i)
     → c.first_largest-i.result + 1
-    ≡ game_label (lent c.args.sizes.now c.args.divisions.now) c.args.losses.now
+    ≡ game_label (game_grid c.args.game.now) c.args.game.now.losses.now
     c.args.point.now
 unfolding game_label
 label_is c =
-    let d = difference (lent c.args.sizes.now c.args.divisions.now) c.args.losses.now
+    let d = difference (game_grid c.args.game.now) c.args.game.now.losses.now
     c.args.point.now in
     add-one c.first_largest-i.result
     ∙ ap suc
@@ -78,6 +79,6 @@ returns c =
       e,
       to_z-of_z {w = w64} fits
           ∙ difference-at (goal.at.returns c).After-first_largest-i i c.first_largest-i.ensures.1
-          ∙ ap (difference (lent c.args.sizes.now c.args.divisions.now) c.args.losses.now
+          ∙ ap (difference (game_grid c.args.game.now) c.args.game.now.losses.now
           c.args.point.now) (sym z ∙ ap pred e),
     )

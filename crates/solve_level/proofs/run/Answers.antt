@@ -2,6 +2,7 @@
 use Rattle.std.proofs.Common.{List, sym, ap, ◌∙◌, ℕ}
 use lib.Seq.{length-take-le}
 use Rattle.combinatorics.specs.Front.{front}
+use Rattle.grid.proofs.Fields.{blocks-range}
 use Rattle.solve_level.proofs.Answers.{FinishedBy, can_announce, can_pad, can_pass, finish_told, finish_written}
 use Rattle.solve_level.proofs.Answers.{blocks-room, finished_from}
 use Rattle.solve_level.proofs.run.Goals as goal
@@ -17,21 +18,15 @@ finished c =
 pub at-held-requires : goal.at-held-requires
 at-held-requires c = can_pad c.requires
 
-pub slice_bounds-own_sizes-end : goal.slice_bounds-own_sizes-end
-slice_bounds-own_sizes-end c = blocks-room c.requires
+pub shared_ref_as_front-sizes : goal.shared_ref_as_front-sizes
+shared_ref_as_front-sizes c = (blocks-range c.args.unit c.requires.made).1
 
-pub slice_bounds-rests-end : goal.slice_bounds-rests-end
-slice_bounds-rests-end c = sym (length-take-le _ _ (blocks-room c.requires))
-
-pub slice_bounds-own_sizes-end-2 : goal.slice_bounds-own_sizes-end-2
-slice_bounds-own_sizes-end-2 c = blocks-room c.requires
-
-pub slice_bounds-pass-end : goal.slice_bounds-pass-end
-slice_bounds-pass-end c = sym (length-take-le _ _ (blocks-room c.requires))
+pub slice_bounds-sizes-end : goal.slice_bounds-sizes-end
+slice_bounds-sizes-end c = sym (length-take-le _ _ (blocks-room c.requires))
 
 pub pass-finish-requires : goal.pass-finish-requires
 pass-finish-requires c =
-    let lengths = c.rests-lengths in
+    let lengths = c.rests-rests in
     let round = c.round_of-round in
     can_pass c.requires lengths.result lengths.ensures round.result round.ensures.0 round.ensures.1 c.at-held.result c.at-held.ensures.0
 

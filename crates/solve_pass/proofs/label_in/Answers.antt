@@ -1,7 +1,7 @@
 -- `label_in` meets its contract: the steps of the order lead to the point, whose label is worked out. Assumes nothing.
 use Rattle.std.proofs.Common.{sym, ap, ◌∙◌, arith}
 use lib.Seq.{length-take-le}
-use Rattle.grid_points.specs.Grid.{lent}
+use Rattle.game_weighed.specs.Levels.{game_grid}
 use Rattle.solve_pass.proofs.Points.{point-is, ready-steps}
 use Rattle.game_losses.specs.Game.{game_label}
 use Rattle.solve_pass.proofs.label_in.Goals as goal
@@ -30,5 +30,5 @@ pub returns : goal.returns
 returns c =
     let a = c.args in
     c.label_at-seen.ensures.0
-    ∙ ap (game_label (lent a.sizes.now a.divisions.now) a.losses.now)
+    ∙ ap (game_label (game_grid a.game.now) a.game.now.losses.now)
     (point-is a.round.now a.held.now a.s c.requires c.advance.new.y c.advance.ensures)

@@ -1,6 +1,6 @@
 -- `pass` meets its contract. Assumes nothing.
 use Rattle.std.proofs.Common.{◌≡◌, refl, sym, ap, ◌∙◌, subst, take, ◌+◌, arith}
-use Rattle.grid_points.specs.Grid.{lent}
+use Rattle.game_weighed.specs.Levels.{game_grid}
 use Rattle.moves.specs.Held.{answered, state_of}
 use Rattle.moves.specs.declared.Outcome.{Outcome}
 use Rattle.moves.specs.declared.Outcome.TheVariants.{Moved}
@@ -20,7 +20,7 @@ begun-at-requires c = omega (arith, c.requires.many, (c.requires.game _ c.requir
 pub loop-visited-init : goal.loop-visited-init
 loop-visited-init c =
     let a = c.args in
-    let p = game_problem (lent a.sizes.now a.divisions.now) (take a.indices a.held.now.first) a.losses.now in
+    let p = game_problem (game_grid a.game.now) (take a.indices a.held.now.first) a.game.now.losses.now in
     let B = c.begun-at.ensures in
     record { here = begins c.requires c.begun-at.new.held c.begun-at.result B; read = begins-reading p _ 1 B.labels refl }
 
@@ -57,7 +57,7 @@ next c status = state_of c.args.round.now c.visit-outcome.new.held status
 
 moved : (c : After-visit-outcome) (status : Status) → c.visit-outcome.result ≡ Moved status
     → (let a = c.args in
-    goes (next c status) ≡ make_move (labelled (lent a.sizes.now a.divisions.now) a.losses.now (place c)))
+    goes (next c status) ≡ make_move (labelled (game_grid a.game.now) a.game.now.losses.now (place c)))
 moved c status e =
     ap (λ (o : Outcome). answered c.args.round.now c.visit-outcome.new.held (stand c).status o) (sym e)
     ∙ c.visit-outcome.ensures
@@ -83,7 +83,7 @@ loop-visited-preserved c =
     let here = (goal.at.loop-visited-preserved c).After-visit-outcome in
     let l = c.loop-visited in
     let a = c.args in
-    let p = game_problem (lent a.sizes.now a.divisions.now) (take a.indices a.held.now.first) a.losses.now in
+    let p = game_problem (game_grid a.game.now) (take a.indices a.held.now.first) a.game.now.losses.now in
     subst (λ (y : Stand). Passing p (l.visited + 1) y (state_of a.round.now c.visit-outcome.new.held y.status))
     (sym c.on-at.ensures)
     (passes_on c.requires a.budget l.visited l.at (place here) l.invariant c.loop-visited-test.true

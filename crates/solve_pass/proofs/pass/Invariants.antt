@@ -1,7 +1,7 @@
 -- `pass` meets its contract. The loop's invariant: beside the state that is held there is one with positions, which
 -- stands at the place whose number is counted, and the labels read are those up to it. Assumes nothing.
 use Rattle.std.proofs.Common.{take}
-use Rattle.grid_points.specs.Grid.{lent}
+use Rattle.game_weighed.specs.Levels.{game_grid}
 use Rattle.moves.specs.Held.{state_of}
 use Rattle.refinement_levels.specs.Levels.{game_problem}
 use Rattle.solve_pass.proofs.Passed.{Passing}
@@ -9,5 +9,5 @@ use Rattle.solve_pass.proofs.pass.Given as goal
 
 abbrev pub invariant-loop-visited : goal.invariant-loop-visited
 invariant-loop-visited l =
-    Passing (game_problem (lent l.sizes l.divisions) (take l.indices l.fn.held.first) l.losses) l.visited l.at
+    Passing (game_problem (game_grid l.game) (take l.indices l.fn.held.first) l.game.losses.now) l.visited l.at
     (state_of l.round l.held l.at.status)

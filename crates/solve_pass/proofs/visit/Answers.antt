@@ -1,7 +1,7 @@
 -- `visit` meets its contract: after rules 6 and 7 the move is made at once, and else a label is stored first. Assumes
 -- nothing.
 use Rattle.std.proofs.Common.{◌≡◌, sym, ap, ◌∙◌, subst}
-use Rattle.grid_points.specs.Grid.{lent}
+use Rattle.game_weighed.specs.Levels.{game_grid}
 use Rattle.solve_pass.proofs.Points.{labelled-none, labelled-some}
 use Rattle.solve_pass.specs.Bare.{labelled}
 use Rattle.moves.specs.Held.{state_of}
@@ -15,15 +15,15 @@ abbrev before : Joined-s-lt6 → State
 before c = let a = c.args in state_of a.round.now a.held.now a.s
 
 worked-out : (c : Joined-s-lt6) → (let a = c.args in
-    state_of a.round.now c.if-s-lt6.held a.s ≡ labelled (lent a.sizes.now a.divisions.now) a.losses.now (before c))
+    state_of a.round.now c.if-s-lt6.held a.s ≡ labelled (game_grid a.game.now) a.game.now.losses.now (before c))
 worked-out c =
     let a = c.args in
-    let g = lent a.sizes.now a.divisions.now in
+    let g = game_grid a.game.now in
     elim c.if-s-lt6.branch [
       | then-s-lt6 w ↦ rw w.held-is (
-          labelled-some g a.losses.now a.round.now a.held.now a.s _ w.if-s-lt6.true
+          labelled-some g a.game.now.losses.now a.round.now a.held.now a.s _ w.if-s-lt6.true
           (c.requires.labels w.if-s-lt6.true).point (w.from.ensures ∙ w.label_in-label.ensures))
-      | else-s-lt6 w ↦ rw w.held-is (sym (labelled-none g a.losses.now (before c) w.if-s-lt6.false))
+      | else-s-lt6 w ↦ rw w.held-is (sym (labelled-none g a.game.now.losses.now (before c) w.if-s-lt6.false))
     ]
 
 pub label_in-label-requires : goal.label_in-label-requires

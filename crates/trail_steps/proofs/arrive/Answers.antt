@@ -2,11 +2,10 @@
 use Rattle.std.proofs.Common.{◌≡◌, refl, ap, ◌∙◌, suc, ◌*◌, arith}
 use borrow.Author.Tests.{le-ltb, lt-ltb}
 use lib.Seq.{take-set-lt}
-use Rattle.moves.specs.Held.{state_of}
+use Rattle.moves.specs.Held.{state_of, with_marks}
 use Rattle.moves.specs.declared.holding.Held.{Held}
 use Rattle.rules.specs.Moves.{State}
 use Rattle.trail_steps.specs.Reading.{marks_with}
-use Rattle.moves.specs.Held.{with_marks}
 use Rattle.trail_steps.proofs.arrive.Goals as goal
 use Rattle.trail_steps.proofs.arrive.Goals.{Joined-s-lt6, else-s-lt6, then-s-lt6}
 

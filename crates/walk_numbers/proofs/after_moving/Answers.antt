@@ -6,4 +6,4 @@ use Rattle.walk_numbers.proofs.after_moving.Goals as goal
 pub returns : goal.returns
 unfolding after_moving
 returns c = c.answered_by.ensures ∙ rw
-    (c.moved-answer.ensures, c.unchanged.ensures)
+    (c.moved-answer.ensures, c.none.ensures)

@@ -8,8 +8,8 @@ use lib.ListN.{length, take, set, replicate}
 use lib.Seq.{length-take-le}
 use Rattle.combinatorics.specs.Front.{front}
 use Rattle.grid_points.proofs.Accepted.{Accepted, accepted}
-use Rattle.grid_points.specs.Grid.{Grid, Point, num_indices, first_index, lent}
-use Rattle.game_weighed.specs.Levels.{StandTo}
+use Rattle.grid_points.specs.Grid.{Grid, Point, num_indices, first_index}
+use Rattle.game_weighed.specs.Levels.{StandTo, game_grid}
 use Rattle.game_losses.specs.AtPoint.{StrategiesStand}
 use Rattle.game_losses.specs.Game.{player_loss, replaced_loss}
 use Rattle.points_in_order.specs.Lent.{PointWithFirsts}
@@ -23,9 +23,9 @@ use Rattle.game_corners.proofs.weighing.weigh_corner.Goals.{Start, After-from-fi
 -- what is known of the game
 module _ (s : Start) where
   abbrev g : Grid
-  g = lent s.args.sizes.now s.args.ones.now
+  g = game_grid s.args.game.now
 
-  abbrev game : CornersToWeigh g s.args.firsts.now s.args.owners.now s.requires.0.0 s.args.point.now
+  abbrev game : CornersToWeigh g s.args.game.now.firsts.now s.args.game.now.owners.now s.requires.0.0 s.args.point.now
       s.args.levels.now s.args.differences.now
   game = s.requires.0.1
 
@@ -89,13 +89,28 @@ module _ (c : After-pick) where
       (λ (p : Point). StrategiesStand (g s) losses p c.pick.new.values)
       (sym (is-corner made_of))
       (picked_stand (g s) (game s).some c.args.point.now (game s).whole c.args.k c.requires.1
-      c.args.owners.now losses c.args.levels.now (game s).owned stand c.pick.new.values
+      c.args.game.now.owners.now losses c.args.levels.now (game s).owned stand c.pick.new.values
       (λ h b. c.pick.ensures.1 h (omega (arith, (game s).whole))))
 
-pub bounds-firsts-last : goal.bounds-firsts-last
-bounds-firsts-last c =
-    let s = (goal.at.bounds-firsts-last c).Start in
+pub bounds-game-last : goal.bounds-game-last
+bounds-game-last c =
+    let s = (goal.at.bounds-game-last c).Start in
     omega (arith, (yes s).few_blocks, (game s).some)
+
+pub overflow_add-first : goal.overflow_add-first
+overflow_add-first c =
+    let w = (goal.at.overflow_add-first c).After-from-first in
+    let e = ends (start w) in
+    omega (arith, first-is w, e.0, e.1)
+
+pub overflow_mul-at : goal.overflow_mul-at
+overflow_mul-at c = omega (arith, (ends (goal.at.overflow_mul-at c).Start).2)
+
+pub overflow_add-at : goal.overflow_add-at
+overflow_add-at c = omega (arith, (ends (goal.at.overflow_add-at c).Start).2)
+
+pub offset_bounds-differences-at : goal.offset_bounds-differences-at
+offset_bounds-differences-at c = omega (arith, (ends (goal.at.offset_bounds-differences-at c).Start).2)
 
 pub corner-corner-requires : goal.corner-corner-requires
 corner-corner-requires c =
@@ -137,7 +152,7 @@ weigh_point-requires c =
       (
         t,
         record {
-          point = subst (PointWithFirsts (g s) c.args.firsts.now) (sym (is-corner (made_of p)))
+          point = subst (PointWithFirsts (g s) c.args.game.now.firsts.now) (sym (is-corner (made_of p)))
               ((game s).points c.args.k c.requires.1);
           table = (game s).table;
           stand = strategies p t (game s).stand;

@@ -12,6 +12,7 @@ use lib.ListN.{length}
 use Rattle.combinatorics.proofs.Basics.{absurd_bool}
 use Rattle.combinatorics.proofs.Fronts.{front-none, front-whole}
 use Rattle.game_corners.proofs.CornerLabels.{lent_rows, lent-label}
+use Rattle.game_weighed.specs.Levels.{game_grid}
 use Rattle.game_corners.proofs.CornerLosses.{last-ends, cornered_kept}
 use Rattle.game_corners.specs.Corners.{last_player}
 use Rattle.grid_points.proofs.Accepted.{Accepted, accepted, blocks-few}
@@ -30,7 +31,7 @@ use Rattle.game_labels.proofs.game.label_points.Goals.{Start, In-loop-label}
 -- what is known of the game
 module _ (s : Start) where
   abbrev g : Grid
-  g = lent s.args.sizes.now s.args.divisions.now
+  g = game_grid s.args.game.now
 
   yes : Accepted g
   yes = accepted g s.requires.grid.accepted
@@ -40,7 +41,7 @@ module _ (s : Start) where
 
   s_long : num_indices g ≡ length s.args.point.now
   s_long = sym (point-length g yes s.args.point.now
-      (point_at g s.args.firsts.now s.requires.grid 0 some s.args.point.now s.requires.first).is_point)
+      (point_at g s.args.game.now.firsts.now s.requires.grid 0 some s.args.point.now s.requires.first).is_point)
 
 -- what is known in a turn
 module _ (c : In-loop-label) where
@@ -48,7 +49,7 @@ module _ (c : In-loop-label) where
   start = (goal.at.In-loop-label c).Start
 
   abbrev firsts : List ℕ
-  firsts = c.args.firsts.now
+  firsts = c.args.game.now.firsts.now
 
   abbrev k : ℕ
   k = c.loop-label.label-index
@@ -82,36 +83,31 @@ module _ (c : In-loop-label) where
 pub overflow_sub-last : goal.overflow_sub-last
 overflow_sub-last c = omega (arith, (yes (goal.at.overflow_sub-last c).Start).some_block)
 
-pub bounds-firsts-last : goal.bounds-firsts-last
-bounds-firsts-last c =
-    let ok = yes (goal.at.bounds-firsts-last c).Start in
+pub bounds-game-last : goal.bounds-game-last
+bounds-game-last c =
+    let ok = yes (goal.at.bounds-game-last c).Start in
     omega (arith, ok.few_blocks, ok.some_block)
-
-pub rests-rests-requires : goal.rests-rests-requires
-rests-rests-requires c =
-    let ok = yes (goal.at.rests-rests-requires c).Start in
-    (ok.sizes_two, ok.few_indices)
 
 pub num_profiles-count-requires : goal.num_profiles-count-requires
 num_profiles-count-requires c =
     (yes (goal.at.num_profiles-count-requires c).Start).few_indices
 
 pub load_losses-requires : goal.load_losses-requires
-load_losses-requires c =
-    let rested = c.rests-rests.ensures in (
-      sym (s_long (goal.at.load_losses-requires c).Start),
-      (
-        c.args.divisions.now,
-        record {
-          grid = c.requires.grid;
-          owned = c.requires.owned;
-          rested = λ l j a b. rested l j a b ∙ behind-alike c.args.sizes.now [] c.args.divisions.now j l;
-          table = c.requires.table;
-          is_count = c.num_profiles-count.ensures;
-          whole = c.requires.numbers;
-        },
-      ),
-    )
+load_losses-requires c = (
+  sym (s_long (goal.at.load_losses-requires c).Start),
+  (
+    c.args.game.now.divisions.now,
+    record {
+      grid = c.requires.grid;
+      owned = c.requires.owned;
+      rested = λ l j a b. c.requires.rested l j a b
+          ∙ behind-alike c.args.game.now.sizes.now [] c.args.game.now.divisions.now j l;
+      table = c.requires.table;
+      is_count = c.num_profiles-count.ensures;
+      whole = c.requires.numbers;
+    },
+  ),
+)
 
 pub loop-label-init : goal.loop-label-init
 loop-label-init c =
@@ -130,20 +126,20 @@ pub weigh_changed-requires : goal.weigh_changed-requires
 weigh_changed-requires c =
     let s = (goal.at.weigh_changed-requires c).Start in
     let i = c.loop-label.invariant in
-    let ss = c.args.sizes.now in
-    let ds = c.args.divisions.now in (
+    let ss = c.args.game.now.sizes.now in
+    let ds = c.args.game.now.divisions.now in (
       ds,
-      c.args.losses.now,
+      c.args.game.now.losses.now,
       record {
         ones_are = c.requires.ones_are;
         table = c.requires.table;
         levels_at = record {
           point = here (goal.at.weigh_changed-requires c).In-loop-label;
           owned = c.requires.owned;
-          rested = λ l j a b. c.rests-rests.ensures l j a b ∙ behind-alike ss [] ds j l;
+          rested = λ l j a b. c.requires.rested l j a b ∙ behind-alike ss [] ds j l;
           range = c.requires.table.range;
           whole = omega (arith, c.requires.numbers);
-          stand = stand-to-alike ss [] ds c.args.losses.now c.loop-label.point c.loop-label.first
+          stand = stand-to-alike ss [] ds c.args.game.now.losses.now c.loop-label.point c.loop-label.first
               c.loop-label.levels i.stand;
         };
         inside = i.inside;
@@ -163,30 +159,30 @@ label_point-requires c =
     let w = (goal.at.label_point-requires c).In-loop-label in
     let s = (goal.at.label_point-requires c).Start in
     let i = c.loop-label.invariant in
-    let stand = c.weigh_changed.ensures.cornered c.args.losses.now i.stand i.corners in
-    let rows = lent_rows (g s) c.args.firsts.now c.args.losses.now c.args.ones.now c.requires.ones_are c.loop-label.point
-    (here w) _ stand c.from-from.result (begins w) (omega arith) in
+    let stand = c.weigh_changed.ensures.cornered c.args.game.now.losses.now i.stand i.corners in
+    let rows = lent_rows (g s) c.args.game.now.firsts.now c.args.game.now.losses.now c.args.ones.now
+    c.requires.ones_are c.loop-label.point (here w) _ stand c.from-from.result (begins w) (omega arith) in
     (omega (arith, long w, blocks-few (g s) (yes s), (yes s).some_block), rw (long w) rows)
 
 pub next_point-first-requires : goal.next_point-first-requires
 next_point-first-requires c =
-    (c.args.divisions.now, here (goal.at.next_point-first-requires c).In-loop-label)
+    (c.args.game.now.divisions.now, here (goal.at.next_point-first-requires c).In-loop-label)
 
 pub loop-label-preserved : goal.loop-label-preserved
 loop-label-preserved c =
     let w = (goal.at.loop-label-preserved c).In-loop-label in
     let s = (goal.at.loop-label-preserved c).Start in
     let i = c.loop-label.invariant in
-    let losses = c.args.losses.now in
-    let ss = c.args.sizes.now in
+    let losses = c.args.game.now.losses.now in
+    let ss = c.args.game.now.sizes.now in
     let v = c.weigh_changed in
     let stand = v.ensures.cornered losses i.stand i.corners in
     let a = c.next_point-first in
     let z : Point = a.new.point in
     let label = c.label_point in
     let is : label.result ≡ game_label (g s) losses c.loop-label.point = label.ensures
-    ∙ rw (long w) (lent-label (g s) c.args.firsts.now losses c.args.ones.now c.requires.ones_are c.loop-label.point
-    (here w) _ stand c.from-from.result (begins w)) in
+    ∙ rw (long w) (lent-label (g s) c.args.game.now.firsts.now losses c.args.ones.now c.requires.ones_are
+    c.loop-label.point (here w) _ stand c.from-from.result (begins w)) in
     let ended : ltb a.result (length ss - 1) ≡ false → a.result ≡ last_player (g s) = λ f.
     omega (arith, ltb-false a.result (length ss - 1) f, a.ensures.upper_bound.0) in
     record {
@@ -194,7 +190,8 @@ loop-label-preserved c =
           (label-written (g s) c.loop-label.label-index losses c.args.buffer.now (inside w) c.requires.whole c.loop-label.point
           (i.here (inside w)));
       here = λ h. a.ensures.point_after
-          ∙ next-point (g s) c.args.firsts.now c.requires.grid c.loop-label.label-index h c.loop-label.point (i.here (inside w));
+          ∙ next-point (g s) c.args.game.now.firsts.now c.requires.grid c.loop-label.label-index h c.loop-label.point
+          (i.here (inside w));
       long = omega (arith, i.long);
       stand = levels_kept (lent ss []) losses c.loop-label.point z a.result (length ss - 1) v.new.levels
           (omega (arith, a.ensures.upper_bound.0)) a.ensures.upper_bound.1 (v.ensures.stand_to losses i.stand);
@@ -209,5 +206,5 @@ returns c =
     let s = (goal.at.returns c).Start in
     let l = c.loop-label in
     l.invariant.written
-    ∙ front-whole (labels (g s) c.args.losses.now) c.args.buffer.now l.label-index
-    (omega (arith, labels_length (g s) c.args.losses.now, c.requires.whole))
+    ∙ front-whole (labels (g s) c.args.game.now.losses.now) c.args.buffer.now l.label-index
+    (omega (arith, labels_length (g s) c.args.game.now.losses.now, c.requires.whole))

@@ -7,7 +7,8 @@ use mir.Syntax.{w64}
 use mir.Val.{SFits}
 use lib.ListN.{length}
 use Rattle.grid_points.proofs.Round.{block_spans}
-use Rattle.grid_points.specs.Grid.{Grid, at, block_of, division, first_index, lent, num_indices}
+use Rattle.game_weighed.specs.Levels.{game_grid}
+use Rattle.grid_points.specs.Grid.{Grid, at, block_of, division, first_index, num_indices}
 use Rattle.game_point.proofs.Compared.{ends, expected_here, expected_low, lengths, replaced-here, replaced-low}
 use Rattle.game_point.specs.Label.{GameAt}
 use borrow.Author.Rules.{rules}
@@ -17,9 +18,9 @@ use Rattle.game_point.proofs.differing.difference.Goals.{After-from-owner, After
 -- what is known once the owner is read
 module _ (c : After-from-owner) where
   abbrev g : Grid
-  g = lent c.args.sizes.now c.args.divisions.now
+  g = game_grid c.args.game.now
 
-  abbrev game : GameAt g c.args.firsts.now c.args.owners.now c.requires.0.0
+  abbrev game : GameAt g c.args.game.now.firsts.now c.args.game.now.owners.now c.requires.0.0
       c.args.point.now
   game = c.requires.0.1
 
@@ -29,8 +30,8 @@ module _ (c : After-from-owner) where
   owner_is : c.from-owner.result ≡ block_of g c.args.h
   owner_is = c.from-owner.ensures ∙ game.owned c.args.h inside
 
-  low : c.from-owner.result < length c.args.sizes.now
-  low = omega (arith, owner_is, (block_spans c.args.sizes.now c.args.h inside).0)
+  low : c.from-owner.result < length c.args.game.now.sizes.now
+  low = omega (arith, owner_is, (block_spans c.args.game.now.sizes.now c.args.h inside).0)
 
 -- and the part of the block
 module _ (c : After-from) where
@@ -52,13 +53,13 @@ module _ (c : After-from) where
       replaced-low (game own) c.args.values.now c.requires.0.2 c.requires.1 c.args.h (inside own) c.from-owner.result
       c.from-first.result c.from.result (owner_is own) first-is c.from.ensures
 
-pub bounds-firsts-owner : goal.bounds-firsts-owner
-bounds-firsts-owner c =
-    let o = (goal.at.bounds-firsts-owner c).After-from-owner in
+pub bounds-game-owner : goal.bounds-game-owner
+bounds-game-owner c =
+    let o = (goal.at.bounds-game-owner c).After-from-owner in
     omega (arith, low o, (game o).grid.few_blocks)
 
-pub bounds-sizes-owner : goal.bounds-sizes-owner
-bounds-sizes-owner c = omega (arith, low (goal.at.bounds-sizes-owner c).After-from-owner)
+pub bounds-game-owner-2 : goal.bounds-game-owner-2
+bounds-game-owner-2 c = omega (arith, low (goal.at.bounds-game-owner-2 c).After-from-owner)
 
 pub slice_bounds-dot-end : goal.slice_bounds-dot-end
 slice_bounds-dot-end c = let e = inner c in search rules
@@ -79,9 +80,9 @@ dot-expected-requires c =
           c.from-owner.result c.from-first.result c.from.result (owner_is o) (first-is w) c.from.ensures,
     )
 
-pub bounds-divisions-owner : goal.bounds-divisions-owner
-bounds-divisions-owner c =
-    let o = (goal.at.bounds-divisions-owner c).After-from-owner in
+pub bounds-game-owner-3 : goal.bounds-game-owner-3
+bounds-game-owner-3 c =
+    let o = (goal.at.bounds-game-owner-3 c).After-from-owner in
     omega (arith, low o, (game o).grid.same_number)
 
 pub overflow_mul-replaced : goal.overflow_mul-replaced

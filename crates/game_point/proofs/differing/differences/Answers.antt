@@ -7,15 +7,16 @@ use mir.Syntax.{w64}
 use mir.Val.{to_z, of_z, SFits}
 use borrow.Author.Rules.{rules}
 use Rattle.game_corners.proofs.Rows.{entry_next}
+use Rattle.game_weighed.specs.Levels.{game_grid}
 use Rattle.grid_points.proofs.Points.{point-long}
-use Rattle.grid_points.specs.Grid.{lent, num_indices}
+use Rattle.grid_points.specs.Grid.{num_indices}
 use Rattle.game_losses.specs.Game.{difference}
 use Rattle.game_point.proofs.differing.differences.Goals as goal
 use Rattle.game_point.proofs.differing.differences.Goals.{Start}
 
 long : (c : Start)
-    → length c.args.point.now ≡ num_indices (lent c.args.sizes.now c.args.divisions.now)
-long c = point-long (lent c.args.sizes.now c.args.divisions.now) c.args.point.now c.requires.1.is_point
+    → length c.args.point.now ≡ num_indices (game_grid c.args.game.now)
+long c = point-long (game_grid c.args.game.now) c.args.point.now c.requires.1.is_point
 
 pub difference-requires : goal.difference-requires
 difference-requires c =
@@ -33,7 +34,7 @@ pub loop-h-preserved : goal.loop-h-preserved
 loop-h-preserved c =
     let l = c.loop-h in
     let d = c.difference in
-    let g = lent c.args.sizes.now c.args.divisions.now in
+    let g = game_grid c.args.game.now in
     let fits : SFits w64 d.result = search rules in
     let z : to_z w64 (of_z w64 d.result) ≡ d.result = to_z-of_z {w = w64} fits in (
       (λ losses G are. entry_next (λ i v. v ≡ difference g losses c.args.point.now i) l.differences l.h _

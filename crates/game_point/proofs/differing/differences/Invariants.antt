@@ -4,14 +4,14 @@ use mathlib.Core.Path.{◌≡◌}
 use Prim.Native.Nat.{ℕ, ◌<◌}
 use lib.ListN.{length}
 use Rattle.game_corners.specs.Corners.{signed_at}
-use Rattle.grid_points.specs.Grid.{lent}
+use Rattle.game_weighed.specs.Levels.{game_grid}
 use Rattle.game_losses.specs.Game.{difference}
 use Rattle.game_point.specs.Label.{GameAt, OwnLosses}
 use Rattle.game_point.proofs.differing.differences.Given as goal
 
 abbrev pub invariant-loop-h : goal.invariant-loop-h
 invariant-loop-h l =
-    ((losses : List ℕ) → GameAt (lent l.sizes l.divisions) l.firsts l.owners losses l.point
-    → OwnLosses (lent l.sizes l.divisions) losses l.point l.values
-    → (i : ℕ) → i < l.h → signed_at l.differences i ≡ difference (lent l.sizes l.divisions) losses l.point i)
+    ((losses : List ℕ) → GameAt (game_grid l.game) l.game.firsts.now l.game.owners.now losses l.point
+    → OwnLosses (game_grid l.game) losses l.point l.values
+    → (i : ℕ) → i < l.h → signed_at l.differences i ≡ difference (game_grid l.game) losses l.point i)
     × (length l.differences ≡ 16)

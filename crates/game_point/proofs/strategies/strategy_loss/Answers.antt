@@ -15,9 +15,9 @@ use Rattle.game_point.proofs.strategies.strategy_loss.Goals.{After-from-owner, A
 -- what is known once the owner is read
 module _ (c : After-from-owner) where
   abbrev g : Grid
-  g = lent c.args.sizes.now c.requires.by_index.0
+  g = lent c.args.game.now.sizes.now c.requires.by_index.0
 
-  game : GameAt g c.args.firsts.now c.args.owners.now c.args.losses.now
+  game : GameAt g c.args.game.now.firsts.now c.args.game.now.owners.now c.args.game.now.losses.now
       c.args.point.now
   game = c.requires.by_index.1
 
@@ -27,14 +27,14 @@ module _ (c : After-from-owner) where
   owner_is : c.from-owner.result ≡ block_of g c.args.h
   owner_is = c.from-owner.ensures ∙ game.owned c.args.h inside
 
-  low : c.from-owner.result < length c.args.sizes.now
-  low = omega (arith, owner_is, (block_spans c.args.sizes.now c.args.h inside).0)
+  low : c.from-owner.result < length c.args.game.now.sizes.now
+  low = omega (arith, owner_is, (block_spans c.args.game.now.sizes.now c.args.h inside).0)
 
-  counted : c.from-owner.result * c.args.count ≤ length c.args.losses.now
+  counted : c.from-owner.result * c.args.count ≤ length c.args.game.now.losses.now
   counted =
       let m = mul-le-mul_right c.args.count low in
-      let e : length c.args.losses.now ≡ length c.args.sizes.now * c.args.count =
-      (game.table.whole ∙ ap (λ (n : ℕ). length c.args.sizes.now * n) (sym c.requires.count_value.0)) in
+      let e : length c.args.game.now.losses.now ≡ length c.args.game.now.sizes.now * c.args.count =
+      (game.table.whole ∙ ap (λ (n : ℕ). length c.args.game.now.sizes.now * n) (sym c.requires.count_value.0)) in
       omega arith
 
 -- and the first index
@@ -43,36 +43,36 @@ module _ (c : After-from) where
   own = (goal.at.After-from c).After-from-owner
 
   abbrev size : ℕ
-  size = at c.args.sizes.now c.from-owner.result
+  size = at c.args.game.now.sizes.now c.from-owner.result
 
   abbrev rest : ℕ
-  rest = at c.args.rests.now c.from-owner.result
+  rest = at c.args.game.now.rests.now c.from-owner.result
 
   first-is : c.from.result ≡ first_index (g own) c.from-owner.result
   first-is = c.from.ensures ∙ (game own).first c.from-owner.result (low own)
 
   before : (c.from.result ≤ c.args.h) × (c.args.h < c.from.result + size)
-  before = spans (game own) c.args.rests.now c.requires.rests c.args.h (inside own)
+  before = spans (game own) c.args.game.now.rests.now c.requires.rests c.args.h (inside own)
       c.from-owner.result c.args.count c.from.result size rest (owner_is own) c.requires.count_value.0
       first-is refl refl
 
   ends : c.from-owner.result * c.args.count + (c.args.h - c.from.result) * rest + rest
-      ≤ length c.args.losses.now
-  ends = within (game own) c.args.rests.now c.requires.rests c.args.h (inside own)
+      ≤ length c.args.game.now.losses.now
+  ends = within (game own) c.args.game.now.rests.now c.requires.rests c.args.h (inside own)
       c.from-owner.result c.args.count c.from.result size rest (owner_is own) c.requires.count_value.0
       first-is refl refl
 
-pub bounds-rests-owner : goal.bounds-rests-owner
-bounds-rests-owner c =
-    let o = (goal.at.bounds-rests-owner c).After-from-owner in
+pub bounds-game-owner : goal.bounds-game-owner
+bounds-game-owner c =
+    let o = (goal.at.bounds-game-owner c).After-from-owner in
     omega (arith, low o, (game o).grid.few_blocks)
 
 pub overflow_mul-at : goal.overflow_mul-at
 overflow_mul-at c = omega (arith, counted (goal.at.overflow_mul-at c).After-from-owner)
 
-pub bounds-firsts-owner : goal.bounds-firsts-owner
-bounds-firsts-owner c =
-    let o = (goal.at.bounds-firsts-owner c).After-from-owner in
+pub bounds-game-owner-2 : goal.bounds-game-owner-2
+bounds-game-owner-2 c =
+    let o = (goal.at.bounds-game-owner-2 c).After-from-owner in
     omega (arith, low o, (game o).grid.few_blocks)
 
 pub overflow_sub-at : goal.overflow_sub-at
@@ -85,19 +85,19 @@ pub overflow_add-at : goal.overflow_add-at
 overflow_add-at c = omega (arith, ends c)
 
 pub overflow_add-at-2 : goal.overflow_add-at-2
-overflow_add-at-2 c = omega (arith, ends c)
+overflow_add-at-2 c = omega (arith, ends (goal.at.overflow_add-at-2 c).After-from)
 
-pub offset_bounds-losses-at : goal.offset_bounds-losses-at
-offset_bounds-losses-at c = omega (arith, ends c)
+pub offset_bounds-game-at : goal.offset_bounds-game-at
+offset_bounds-game-at c = omega (arith, ends (goal.at.offset_bounds-game-at c).After-from)
 
 pub slice_bounds-weigh-end : goal.slice_bounds-weigh-end
-slice_bounds-weigh-end c = let e = ends c in search rules
+slice_bounds-weigh-end c = let e = ends (goal.at.slice_bounds-weigh-end c).After-from in search rules
 
 pub weigh-requires : goal.weigh-requires
 weigh-requires c =
     let w = (goal.at.weigh-requires c).After-from in
     let o = own w in
-    can (game o) c.args.rests.now c.requires.rests c.args.h (inside o) c.from-owner.result
+    can (game o) c.args.game.now.rests.now c.requires.rests c.args.h (inside o) c.from-owner.result
     c.args.count c.from.result (size w) (rest w) (owner_is o) c.requires.count_value.0 (first-is w) refl refl
 
 pub returns : goal.returns
@@ -105,5 +105,5 @@ returns c =
     let w = (goal.at.returns c).After-from in
     let o = own w in
     c.weigh.ensures
-    ∙ is-own (game o) c.args.rests.now c.requires.rests c.args.h (inside o) c.from-owner.result
+    ∙ is-own (game o) c.args.game.now.rests.now c.requires.rests c.args.h (inside o) c.from-owner.result
     c.args.count c.from.result (size w) (rest w) (owner_is o) c.requires.count_value.0 (first-is w) refl refl

@@ -10,8 +10,9 @@ use Rattle.game_point.specs.Label.{own_loss}
 use Rattle.game_point.proofs.strategies.strategy_losses.Goals as goal
 use Rattle.game_point.proofs.strategies.strategy_losses.Goals.{Start}
 
-long : (c : Start) → length c.args.point.now ≡ num_indices (lent c.args.sizes.now [])
-long c = point-long (lent c.args.sizes.now c.requires.by_index.0) c.args.point.now c.requires.by_index.1.is_point
+long : (c : Start) → length c.args.point.now ≡ num_indices (lent c.args.game.now.sizes.now [])
+long c =
+    point-long (lent c.args.game.now.sizes.now c.requires.by_index.0) c.args.point.now c.requires.by_index.1.is_point
 
 pub strategy_loss-requires-clause-count_value : goal.strategy_loss-requires-clause-count_value
 strategy_loss-requires-clause-count_value c = (
@@ -30,7 +31,7 @@ bounds-values-h c =
 pub loop-h-preserved : goal.loop-h-preserved
 loop-h-preserved c =
     let l = c.loop-h in (
-      entries_turn (own_loss (lent c.args.sizes.now []) c.args.losses.now c.args.point.now) l.values
+      entries_turn (own_loss (lent c.args.game.now.sizes.now []) c.args.game.now.losses.now c.args.point.now) l.values
           l.h _ (omega (arith, long (goal.at.loop-h-preserved c).Start, c.requires.by_index.1.grid.few_indices))
           c.strategy_loss.ensures l.invariant.0,
       simp length-set l.invariant.1,

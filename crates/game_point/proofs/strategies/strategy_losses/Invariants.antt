@@ -9,5 +9,5 @@ use Rattle.game_point.proofs.strategies.strategy_losses.Given as goal
 
 abbrev pub invariant-loop-h : goal.invariant-loop-h
 invariant-loop-h l =
-    ((i : ℕ) → i < l.h → at l.values i ≡ own_loss (lent l.sizes []) l.losses l.point i)
+    ((i : ℕ) → i < l.h → at l.values i ≡ own_loss (lent l.game.sizes.now []) l.game.losses.now l.point i)
     × (length l.values ≡ 16)

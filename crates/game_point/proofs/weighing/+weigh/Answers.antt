@@ -20,16 +20,16 @@ use Rattle.game_point.proofs.weighing.+weigh.Goals.{In-loop-k}
 -- what is known in the loop
 module _ (t : ℕ) (c : In-loop-k t) where
   abbrev g : Grid
-  g = lent c.args.sizes.now []
+  g = lent c.args.game.now.sizes.now []
 
-  can : CanWeighLosses g c.args.firsts.now c.args.rests.now c.args.point.now c.args.losses.now c.args.player
-      c.args.block
+  can : CanWeighLosses g c.args.game.now.firsts.now c.args.game.now.rests.now c.args.point.now c.args.losses.now
+      c.args.player c.args.block
   can = c.requires
 
   other : c.args.block ≡ c.args.player → ⊥
   other = c.if-block-player.false
 
-  below : c.args.block < length c.args.sizes.now
+  below : c.args.block < length c.args.game.now.sizes.now
   below = omega (arith, can.inside)
 
   abbrev s : ℕ
@@ -52,7 +52,7 @@ module _ (t : ℕ) (c : In-loop-k t) where
   share = omega (
     arith,
     first-is,
-    block-fits c.args.sizes.now c.args.block,
+    block-fits c.args.game.now.sizes.now c.args.block,
     can.room,
     c.from-size.ensures,
   )
@@ -79,15 +79,16 @@ module _ (t : ℕ) (c : In-loop-k t) where
 
 pub weigh-requires : goal.weigh-requires
 weigh-requires t c =
-    let h : c.args.block < length c.args.sizes.now = omega (arith, c.requires.inside) in
+    let h : c.args.block < length c.args.game.now.sizes.now = omega (arith, c.requires.inside) in
     (omega (arith, c.decreases), at_own c.requires h c.if-block-player.true)
 
 pub returns-then-block-player : goal.returns-then-block-player
 returns-then-block-player t c =
-    let h : c.args.block < length c.args.sizes.now = omega (arith, c.requires.inside) in
+    let h : c.args.block < length c.args.game.now.sizes.now = omega (arith, c.requires.inside) in
     c.weigh.ensures
     ∙ ap (λ u. dot u c.args.losses.now)
-    (sym (from-own (lent c.args.sizes.now []) c.args.point.now c.args.player c.args.block h c.if-block-player.true))
+    (sym (from-own (lent c.args.game.now.sizes.now []) c.args.point.now c.args.player c.args.block h
+    c.if-block-player.true))
 
 pub overflow_mul-at : goal.overflow_mul-at
 overflow_mul-at t c = omega (arith, row t c)
@@ -139,10 +140,10 @@ loop-k-preserved t c =
 
 pub returns : goal.returns
 returns t c =
-    let h : c.args.block < length c.args.sizes.now = omega (arith, c.requires.inside) in
+    let h : c.args.block < length c.args.game.now.sizes.now = omega (arith, c.requires.inside) in
     let z : c.loop-k.k ≡ c.from-size.result = omega arith in
     let r = c.rest_behind-rest.result in
-    let r_is = c.rest_behind-rest.ensures (lent c.args.sizes.now []) c.requires.resting c.requires.few in
+    let r_is = c.rest_behind-rest.ensures (lent c.args.game.now.sizes.now []) c.requires.resting c.requires.few in
     let e = no_more_lem c.requires h c.if-block-player.false c.from-size.result r c.from-size.ensures r_is in
     let inv = rw z at c.loop-k.invariant in
     omega (arith, total-is c.requires h c.if-block-player.false c.from-size.result r c.from-size.ensures r_is)

@@ -6,4 +6,4 @@ use Rattle.game_weighed.proofs.load.load_losses.Given as goal
 
 abbrev pub invariant-loop-h : goal.invariant-loop-h
 invariant-loop-h l =
-    (y : Point) → Stand (lent l.sizes []) l.losses y 0 l.h l.levels
+    (y : Point) → Stand (lent l.game.sizes.now []) l.game.losses.now y 0 l.h l.levels

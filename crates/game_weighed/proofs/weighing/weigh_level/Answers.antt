@@ -10,10 +10,10 @@ use Rattle.game_weighed.proofs.weighing.weigh_level.Goals.{After-from-owner}
 
 -- what is known once the owner is read
 ready : (c : After-from-owner)
-    → let o = at c.args.owners.now c.loop-h.h in
+    → let o = at c.args.game.now.owners.now c.loop-h.h in
     (o < 6)
     × IndexToWeigh o c.args.mix.now c.args.levels.now c.args.level c.loop-h.h
-    (rest_at c.args.owners.now c.args.rests.now c.args.level c.loop-h.h)
+    (rest_at c.args.game.now.owners.now c.args.game.now.rests.now c.args.level c.loop-h.h)
 ready c = c.requires.2 c.loop-h.h (omega arith)
 
 owner_low : (c : After-from-owner) → c.from-owner.result < 6
@@ -25,10 +25,11 @@ weigh_index-requires c =
     let a = c.args in
     subst
     (λ (o : ℕ).
-    IndexToWeigh o a.mix.now l.levels a.level l.h (at a.rests.now ((a.level + 1) * 6 + o)))
+    IndexToWeigh o a.mix.now l.levels a.level l.h (at a.game.now.rests.now ((a.level + 1) * 6 + o)))
     (sym c.from-owner.ensures)
-    (index_kept (at a.owners.now l.h) a.mix.now a.levels.now a.level l.h
-    (rest_at a.owners.now a.rests.now a.level l.h) (ready (goal.at.weigh_index-requires c).After-from-owner).1
+    (index_kept (at a.game.now.owners.now l.h) a.mix.now a.levels.now a.level l.h
+    (rest_at a.game.now.owners.now a.game.now.rests.now a.level l.h)
+    (ready (goal.at.weigh_index-requires c).After-from-owner).1
     l.levels l.invariant.kept (omega arith))
 
 pub loop-h-preserved : goal.loop-h-preserved
@@ -36,9 +37,9 @@ loop-h-preserved c =
     let l = c.loop-h in
     let a = c.args in
     let done = subst
-    (λ (o : ℕ). Written l.levels (place (a.level + 1) l.h) (at a.rests.now ((a.level + 1) * 6 + o))
-    (next_at o a.mix.now l.levels a.level l.h (at a.rests.now ((a.level + 1) * 6 + o)))
+    (λ (o : ℕ). Written l.levels (place (a.level + 1) l.h) (at a.game.now.rests.now ((a.level + 1) * 6 + o))
+    (next_at o a.mix.now l.levels a.level l.h (at a.game.now.rests.now ((a.level + 1) * 6 + o)))
     c.weigh_index.new.levels)
     c.from-owner.ensures c.weigh_index.ensures in
-    level_turn a.owners.now a.rests.now a.mix.now a.levels.now a.level a.indices c.requires l.h
+    level_turn a.game.now.owners.now a.game.now.rests.now a.mix.now a.levels.now a.level a.indices c.requires l.h
     (omega arith) l.levels _ l.invariant done

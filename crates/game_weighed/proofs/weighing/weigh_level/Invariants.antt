@@ -4,4 +4,4 @@ use Rattle.game_weighed.proofs.weighing.weigh_level.Given as goal
 
 abbrev pub invariant-loop-h : goal.invariant-loop-h
 invariant-loop-h l =
-    LevelWeighed l.owners l.rests l.mix l.level l.h l.initial.levels l.levels
+    LevelWeighed l.game.owners.now l.game.rests.now l.mix l.level l.h l.initial.levels l.levels

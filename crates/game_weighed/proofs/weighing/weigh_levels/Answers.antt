@@ -21,7 +21,7 @@ use Rattle.game_weighed.proofs.weighing.weigh_levels.Goals.{Start, After-from}
 -- what is known of the game
 module _ (s : Start) where
   abbrev g : Grid
-  g = lent s.args.sizes.now s.requires.1.0
+  g = lent s.args.game.now.sizes.now s.requires.1.0
 
   yes : Accepted g
   yes = accepted g s.requires.1.2.point.grid.accepted
@@ -42,16 +42,16 @@ module _ (c : After-from) where
       ∙ c.requires.1.2.point.grid.first k (omega arith)
 
   inside : first_index (g start) k + c.from.result ≤ length c.args.point.now
-  inside = omega (arith, c.from.ensures, long start, block-fits c.args.sizes.now k)
+  inside = omega (arith, c.from.ensures, long start, block-fits c.args.game.now.sizes.now k)
 
   lent_is : take (c.from-from.result + c.from.result - c.from-from.result)
       (drop c.from-from.result c.args.point.now)
       ≡ mix (g start) c.args.point.now k
-  lent_is = lent-mix c.args.sizes.now c.args.point.now k c.from-from.result
+  lent_is = lent-mix c.args.game.now.sizes.now c.args.point.now k c.from-from.result
       c.from.result first-is c.from.ensures (sym (long start))
 
-pub bounds-firsts-level : goal.bounds-firsts-level
-bounds-firsts-level c = omega (arith, (yes (goal.at.bounds-firsts-level c).Start).few_blocks)
+pub bounds-game-level : goal.bounds-game-level
+bounds-game-level c = omega (arith, (yes (goal.at.bounds-game-level c).Start).few_blocks)
 
 pub slice_bounds-weigh_level-end : goal.slice_bounds-weigh_level-end
 slice_bounds-weigh_level-end c = let e = first-is c in let i = inside c in search rules
@@ -62,16 +62,16 @@ weigh_level-requires c =
     let l = c.loop-level in
     let a = c.args in
     let x = c.requires.1.2 in
-    let ss = a.sizes.now in
+    let ss = a.game.now.sizes.now in
     let ds = c.requires.1.0 in
     let t = c.requires.1.1 in
     let stand = stand-to-alike ss [] ds t a.point.now l.level l.levels
     (l.invariant t (stand-to-alike ss ds [] t a.point.now a.first a.levels.now x.stand)) in
-    let ready = level_ready (g s) a.firsts.now a.owners.now a.rests.now t a.point.now l.level
+    let ready = level_ready (g s) a.game.now.firsts.now a.game.now.owners.now a.game.now.rests.now t a.point.now l.level
     a.first l.levels a.levels.now x (omega arith) (omega arith) stand in
     rw (lent_is (goal.at.weigh_level-requires c).After-from) (subst
     (λ (n : ℕ).
-    LevelToWeigh a.owners.now a.rests.now (mix (g s) a.point.now l.level) l.level n l.levels)
+    LevelToWeigh a.game.now.owners.now a.game.now.rests.now (mix (g s) a.point.now l.level) l.level n l.levels)
     (sym (long s)) ready)
 
 pub loop-level-preserved : goal.loop-level-preserved
@@ -80,15 +80,15 @@ loop-level-preserved c =
     let l = c.loop-level in
     let a = c.args in
     let x = c.requires.1.2 in
-    let ss = a.sizes.now in
+    let ss = a.game.now.sizes.now in
     let ds = c.requires.1.0 in
     let new = c.weigh_level.new.levels in
     let done = rw (lent_is (goal.at.loop-level-preserved c).After-from) at c.weigh_level.ensures in
     let weighed = subst
     (λ (n : ℕ).
-    LevelWeighed a.owners.now a.rests.now (mix (g s) a.point.now l.level) l.level n l.levels new)
+    LevelWeighed a.game.now.owners.now a.game.now.rests.now (mix (g s) a.point.now l.level) l.level n l.levels new)
     (long s) done in
     λ t b. stand-to-alike ss ds [] t a.point.now (l.level + 1) new
-    (level_stands (g s) a.firsts.now a.owners.now a.rests.now c.requires.1.1 a.point.now
+    (level_stands (g s) a.game.now.firsts.now a.game.now.owners.now a.game.now.rests.now c.requires.1.1 a.point.now
     l.level a.first l.levels a.levels.now x (omega arith) (omega arith) t _
     (stand-to-alike ss [] ds t a.point.now l.level l.levels (l.invariant t b)) weighed)

@@ -8,4 +8,5 @@ use Rattle.game_weighed.proofs.weighing.weigh_levels.Given as goal
 
 abbrev pub invariant-loop-level : goal.invariant-loop-level
 invariant-loop-level l =
-    (t : List ℕ) → StandTo (lent l.sizes []) t l.point l.first l.initial.levels → StandTo (lent l.sizes []) t l.point l.level l.levels
+    let g = lent l.game.sizes.now [] in
+    (t : List ℕ) → StandTo g t l.point l.first l.initial.levels → StandTo g t l.point l.level l.levels

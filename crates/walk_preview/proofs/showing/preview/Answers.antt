@@ -25,6 +25,6 @@ pub returns-in-Refused : goal.returns-in-Refused
 returns-in-Refused c =
     let m = c.moved-answer in
     let a = c.args in
-    let change = c.unchanged-change in
+    let change = c.none-change in
     ⊎_elim (λ r. shown-refused a.w a.labels.now m.result m.ensures r.0 r.1 change.result change.ensures)
     (λ r. shown-ended a.w a.labels.now m.result m.ensures r.0 r.1 r.2 r.3 change.result change.ensures) c.in-Refused.is
