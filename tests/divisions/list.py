@@ -19,7 +19,7 @@ WITHOUT = ["positions", "rules", "arrays", "moves", "ways", "marks", "path_pass"
            "walk_labels", "walk_ways", "walk_next", "walk_calls", "walk_views"]
 
 REASONS = {
-    "game_weighed::lengths::rests": "which block and player a place stands for, 36 times a game",
+    "game_weighed::lengths::fn::rests::from_fn": "which block and player a place stands for, 36 times a game",
     "slip::brought": "how many losses of two bytes a slip brings",
     "slip::fields::bit_stands": "one bit of the slip's first byte",
     "rounding::centre": "the centre in ten-thousandths, rounded",
