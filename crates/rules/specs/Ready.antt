@@ -37,11 +37,6 @@ pub record IsEntry (order : List ℕ) (n e r : ℕ) : Type 0 where
   pub is : r ≡ at (take n order) e
   pub index : r < 16
 
--- the arrays that hold the order and the marks have 16 entries
-pub record SixteenEach (order marks : List ℕ) : Type 0 where
-  pub in_order : length order ≡ 16
-  pub in_marks : length marks ≡ 16
-
 pub record ReadyFirst (s : State) : Type 0 where
   pub some : 1 ≤ length s.order
   pub positive : 1 ≤ at s.first (source_in s (at s.order 0))

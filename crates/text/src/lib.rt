@@ -61,10 +61,3 @@ pub fn labelled(out: &mut [u8; SHEET_BYTES], at: usize, word: &[u8], n: u64) -> 
     let next = spaced(out, next, n);
     byte(out, next, b'\n')
 }
-
-// A number of 16 bits as one of 64.
-pub fn u64_of(x: u16) -> u64
-    ensures { (result ≡ x) × (result ≤ 65535) }
-{
-    u64::from(x)
-}
