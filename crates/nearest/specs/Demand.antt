@@ -1,6 +1,6 @@
 -- What holds of every call that is not refused before it runs: its run is that of a run without w, and what it reports
 -- is right. Assumes nothing.
-use Rattle.std.specs.Prelude.{List, None, ◌≡◌, ℕ, ◌<◌, length}
+use Rattle.std.specs.Prelude.{List, None, Some, ◌≡◌, ℕ, ◌<◌, length}
 use Rattle.end_kinds.specs.declared.Kind.{Kind}
 use Rattle.grid_points.specs.Grid.{Point, position}
 use Rattle.place.specs.Path.{path_length}
@@ -10,7 +10,6 @@ use Rattle.finder.specs.declared.answers.RunAnswer.TheVariants.{End, Unknown}
 use Rattle.nearest_visited.specs.Demand.{Distances, IsList, IsNearest, Visits}
 use Rattle.nearest_visited.specs.Nearest.{nearest, positions_within}
 use Rattle.nearest.specs.Report.{near_answer_buffer, list_buffer, near_refusal, report_of}
-use Rattle.nearest_pass.specs.Survey.{some_vertex}
 
 pub record NearDemand (p : Problem) (w : Point) (room list_room : ℕ) : Type 0 where
   -- the run is that of a run without w, distance and list, its vertices in the answer buffer included
@@ -24,7 +23,7 @@ pub record NearDemand (p : Problem) (w : Point) (room list_room : ℕ) : Type 0 
   pub ended : (given budget n read block vertices : ℕ) (kind : Kind)
       → run_answer p room budget ≡ End n read kind block vertices
       → (report_of p w given room list_room budget).nearest
-      ≡ some_vertex (position p.grid (nearest p w)) (length (positions_within p w given))
+      ≡ Some (record { position = position p.grid (nearest p w); listed = length (positions_within p w given) })
   -- with 9 and 16 none is, and the list is as before
   pub spent : (given budget : ℕ) (old : List ℕ) → length old ≡ list_room → budget < path_length p
       → ((report_of p w given room list_room budget).nearest ≡ None) × (list_buffer p w given room budget old ≡ old)

@@ -1,6 +1,6 @@
 -- What a run that reports where the path came nearest answers and leaves in its two buffers, on every input. Assumes
 -- nothing.
-use Rattle.std.specs.Prelude.{cond, List, [], None, Option, ℕ, eqb, length}
+use Rattle.std.specs.Prelude.{cond, List, [], None, Option, Some, ℕ, eqb, length}
 use Rattle.combinatorics.specs.Front.{front}
 use Rattle.questions.specs.Questions.{first_no}
 use Rattle.grid_points.specs.Grid.{Point, position}
@@ -10,7 +10,6 @@ use Rattle.finder.specs.Run.{case_of, numbers_of}
 use Rattle.finder.specs.declared.answers.RunAnswer.TheVariants.{Refused}
 use Rattle.nearest_visited.specs.Nearest.{nearest as nearest_vertex, positions_within}
 use Rattle.nearest_visited.specs.Questions.{near_questions}
-use Rattle.nearest_pass.specs.Survey.{some_vertex}
 use Rattle.nearest_pass.specs.declared.Vertex.{Vertex}
 use Rattle.nearest.specs.declared.Report.{Report}
 
@@ -22,7 +21,7 @@ near_refusal p w room list_room = first_no (near_questions p w room list_room)
 -- its number and no count": 9 and 16, with which no end is reached, report none
 abbrev pub nearest_in : Problem → Point → ℕ → PathAnswer → Option Vertex
 nearest_in p w given (ended n read kind block vertices simplex) =
-    some_vertex (position p.grid (nearest_vertex p w)) (length (positions_within p w given))
+    Some (record { position = position p.grid (nearest_vertex p w); listed = length (positions_within p w given) })
 nearest_in p w given (spent n) = None
 nearest_in p w given (unknown n i) = None
 
