@@ -17,14 +17,16 @@ fn first_met<F: Fn(usize) -> bool>(way: &[u8; 16], sizes: &[u8; 16], h: usize, t
         × ((q : ℕ → Bool) → ((k : ℕ) (b : Bool) → F.post test k b → b ≡ q k)
         → result ≡ first_met way.now q (at sizes.now h) (at way.now h)) }
 {
+    // No `for`: the index is what the loop breaks with, and the number of indices left falls, as the papers name it.
     let mut at = usize::from(way[h]);
-    for _ in 0..sizes[h] {
-        if test(at) {
-            break;
+    let mut left = sizes[h];
+    loop {
+        if left == 0 || test(at) {
+            break at;
         }
         at = usize::from(way[at]);
+        left -= 1;
     }
-    at
 }
 
 // The first index met going from h that is not in the set, by a loop round the block: going back and with U, document
