@@ -6,7 +6,7 @@ use Rattle.grid_points.specs.Grid.{block_of}
 use Rattle.grid.specs.Made.{IsMade, shape}
 use Rattle.grid.specs.declared.Grid.{Grid as GridStruct}
 use Rattle.moves.specs.Held.{state_of}
-use Rattle.moves.specs.declared.holding.Held.{Held}
+use Rattle.arrays.specs.declared.holding.Held.{Held}
 use Rattle.moves.specs.declared.Status.{Status}
 use Rattle.path_pass.specs.Finish.{first_point_of}
 use Rattle.path_pass.specs.declared.Finish.{Finish}

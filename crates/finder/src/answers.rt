@@ -12,11 +12,11 @@ ghost use Rattle.finder.specs.Finishes.{CanAnnounce, case_at, numbers_at};
 ghost use Rattle.path_pass.specs.Finish.{first_point_of};
 ghost use Rattle.finder.specs.Run.{case_of, numbers_of, run_answer, run_buffer};
 
-use arrays::round_of;
+use arrays::{Held, round_of};
 use end_kinds::Kind;
 use grid::Grid;
 use label_table::all_at_most;
-use moves::Held;
+use moves::put_points;
 use path_pass::{Finish, pass};
 use positions::ENTRIES;
 use rules::Round;
@@ -86,7 +86,7 @@ pub fn announce(
             labels_read,
         } => {
             let from = first_vertex(kind);
-            let vertices = held.put_points(round, status, g.indices, from, answer);
+            let vertices = put_points(held, round, status, g.indices, from, answer);
             RunAnswer::End {
                 places,
                 labels_read,

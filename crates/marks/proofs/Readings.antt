@@ -30,7 +30,7 @@ use Rattle.rules.specs.declared.Round.{Round}
 use Rattle.moves.specs.declared.Status.{Status}
 use Rattle.marks.specs.Reading.{Readable, CanReadPoint, add_up, label_reading}
 use Rattle.marks.specs.Reading.{table_problem}
-use Rattle.moves.specs.declared.holding.Held.{Held}
+use Rattle.arrays.specs.declared.holding.Held.{Held}
 
 -- a grid point's label stands in the table at its position
 module _ (g : GridStruct) (binomials table : List ℕ) (R : Readable g binomials table) (y : Point) where

@@ -13,10 +13,10 @@ ghost use Rattle.rules.specs.Moves.{source};
 ghost use Rattle.marks.specs.Reading.{table_problem, label_reading, is_between, add_up, Readable, CanFind};
 ghost use Rattle.marks.specs.Reading.{CanReadPoint, HasOrder, IsRight};
 
-use arrays::{first_outside, index_at, position_at};
+use arrays::{Held, first_outside, index_at, position_at};
 use grid::Grid;
 use label_table::read_at;
-use moves::{Held, Status, advance};
+use moves::{Status, advance};
 use one_step::{by_step_from, by_step_to};
 use positions::ENTRIES;
 use rules::Round;

@@ -6,9 +6,9 @@ ghost use Rattle.positions.specs.Binomials.{Measured};
 ghost use Rattle.rules.specs.Read.{FallsBeside};
 ghost use Rattle.marks.specs.Reading.{CanWeigh, FallsBy, HasOrder, IsRight};
 
-use arrays::{first_outside, index_at, position_at};
+use arrays::{Held, first_outside, index_at, position_at};
 use grid::Grid;
-use moves::{Held, Status};
+use moves::Status;
 use positions::ENTRIES;
 use rules::Round;
 

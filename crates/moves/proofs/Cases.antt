@@ -19,7 +19,7 @@ use Rattle.rules.specs.Moves.{State, goes, ends_at_place, ends_at_facet, mark_la
 use Rattle.rules.specs.declared.Round.{Round}
 use Rattle.rules.specs.Moves.{first_outside_or_zero, is_filled, shifted, changed_before, shrink, joined, grow, leave_first}
 use Rattle.rules.specs.Moves.{leave_middle, leave_last, leave, make_move}
-use Rattle.moves.specs.declared.holding.Held.{Held}
+use Rattle.arrays.specs.declared.holding.Held.{Held}
 use Rattle.moves.specs.declared.Status.{Status}
 
 -- states that agree in what a move changes

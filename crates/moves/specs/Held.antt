@@ -4,7 +4,7 @@ use Rattle.grid_points.specs.Grid.{at}
 use Rattle.rules.specs.Ready.{IndicesBelow, RoundBelow, Ready, ReadyGrow}
 use Rattle.rules.specs.Moves.{State, After, goes, ends_at_place, ends_at_facet, source_in}
 use Rattle.rules.specs.declared.Round.{Round}
-use Rattle.moves.specs.declared.holding.Held.{Held}
+use Rattle.arrays.specs.declared.holding.Held.{Held}
 use Rattle.moves.specs.declared.Outcome.{Outcome}
 use Rattle.moves.specs.declared.Outcome.TheVariants.{Moved, PlaceEnd, FacetEnd}
 use Rattle.moves.specs.declared.Status.{Status}

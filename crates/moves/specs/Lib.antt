@@ -1,3 +1,2 @@
-pub mod Going
 pub mod Held
 pub mod Room

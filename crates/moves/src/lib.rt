@@ -1,14 +1,12 @@
-// What a run holds of a place, and the moves by which a point leaves. What is public here is for the crates above,
-// which show what it asks.
+// The state of a run over what it holds of a place, and the moves by which a point leaves. What is public here is for
+// the crates above, which show what it asks.
 #![tactic(auto)]
 
-mod going;
-mod holding;
 mod leaving;
 mod points;
 
-pub use holding::Held;
-pub use points::advance;
+pub use leaving::leave;
+pub use points::{advance, put_points};
 
 // What the next move looks at, beside the numbers that are held. T and U are masks of 16 indices.
 #[derive(Clone, Copy)]

@@ -8,8 +8,8 @@ ghost use Rattle.rules.specs.Read.{point_after, numbers_from, ReadyPoint};
 ghost use Rattle.rules.specs.Ready.{IndicesBelow};
 ghost use Rattle.rules.specs.Moves.{source};
 
-use crate::{Held, Status};
-use arrays::{first_outside, shift};
+use crate::Status;
+use arrays::{Held, first_outside, shift};
 use rules::Round;
 
 // The first i steps of the order: on a point, or on counts of its steps.
@@ -33,29 +33,27 @@ fn put_row(buf: &mut [u16], position: usize, y: &[u16; 16], m: usize)
     buf[position..position + m].copy_from_slice(&y[..m]);
 }
 
-impl Held {
-    // The points of the place from number from on, m numbers each, at the front of the buffer. The result is how many
-    // points these are.
-    pub fn put_points(
-        &self,
-        round: &Round,
-        s: Status,
-        m: usize,
-        from: usize,
-        buf: &mut [u16],
-    ) -> usize
-        requires { let a = state_of round.now self.now s in
-            CanPut a m from (length buf.old) × (length a.order ≡ s.count) }
-        ensures value { result ≡ suc (length (state_of round.now self.now s).order) - from }
-        ensures buf_after { buf.new ≡ front (numbers_from m (state_of round.now self.now s) from) buf.old }
-    {
-        let mut position: usize = 0;
-        for i in from..s.count + 1 {
-            let mut z = self.first;
-            advance(&mut z, round, s.u, &self.order, i);
-            put_row(buf, position, &z, m);
-            position += m;
-        }
-        s.count + 1 - from
+// The points of the place from number from on, m numbers each, at the front of the buffer. The result is how many
+// points these are.
+pub fn put_points(
+    held: &Held,
+    round: &Round,
+    s: Status,
+    m: usize,
+    from: usize,
+    buf: &mut [u16],
+) -> usize
+    requires { let a = state_of round.now held.now s in
+        CanPut a m from (length buf.old) × (length a.order ≡ s.count) }
+    ensures value { result ≡ suc (length (state_of round.now held.now s).order) - from }
+    ensures buf_after { buf.new ≡ front (numbers_from m (state_of round.now held.now s) from) buf.old }
+{
+    let mut position: usize = 0;
+    for i in from..s.count + 1 {
+        let mut z = held.first;
+        advance(&mut z, round, s.u, &held.order, i);
+        put_row(buf, position, &z, m);
+        position += m;
     }
+    s.count + 1 - from
 }

@@ -11,7 +11,7 @@ use Rattle.path_pass.specs.declared.Finish.TheVariants.{Ended, Spent, Unknown}
 use Rattle.place.specs.Path.{answer}
 use Rattle.place.specs.Problem.{Problem}
 use Rattle.rules.specs.declared.Round.{Round}
-use Rattle.moves.specs.declared.holding.Held.{Held}
+use Rattle.arrays.specs.declared.holding.Held.{Held}
 use Rattle.nearest_pass.specs.Survey.{Surveys}
 use Rattle.nearest_pass.specs.declared.Vertex.{Vertex}
 use Rattle.std.specs.Prelude.{Option}

@@ -14,10 +14,9 @@ ghost use Rattle.marks.specs.Reading.{problem_from};
 ghost use Rattle.nearest_visited.specs.Questions.{point_questions};
 ghost use Rattle.nearest.specs.Report.{near_answer_buffer, list_buffer, listed_by, report_of, reported};
 
-use arrays::round_of;
+use arrays::{Held, round_of};
 use finder::{RunAnswer, announce};
 use grid::Grid;
-use moves::Held;
 use nearest_met::weights;
 pub use nearest_pass::Vertex;
 use nearest_pass::pass_noting;

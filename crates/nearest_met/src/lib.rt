@@ -16,10 +16,10 @@ ghost use Rattle.nearest_met.specs.Meeting.{point_come};
 
 mod distances;
 
-use arrays::position_at;
+use arrays::{Held, position_at};
 use distances::distance_of;
 pub use distances::weights;
-use moves::{Held, Status, advance};
+use moves::{Status, advance};
 use rules::Round;
 
 // What is kept of the vertices met so far: the position of the nearest and its distance, before the first one a

@@ -5,9 +5,10 @@ ghost use Rattle.std.specs.Prelude.{None, ◌≡◌};
 ghost use Rattle.path_pass.specs.Finish.{CanPass, Finished, problem_in};
 ghost use Rattle.nearest_pass.specs.Survey.{CanNote, Surveys, none_met, some_vertex};
 
+use arrays::Held;
 use end_kinds::Kind;
 use grid::Grid;
-use moves::{Held, Outcome};
+use moves::Outcome;
 use nearest_met::{Tally, came_in, meet};
 use path_pass::{Finish, begun, ended, look_up, on};
 use positions::ENTRIES;

@@ -8,7 +8,7 @@ use lib.Seq.{take-set-lt}
 use native.Mathlib.Omega.{arith}
 use Rattle.path_pass.specs.Finish.{IsKnown}
 use Rattle.moves.specs.Held.{state_of, state_with}
-use Rattle.moves.specs.declared.holding.Held.{Held}
+use Rattle.arrays.specs.declared.holding.Held.{Held}
 use Rattle.moves.specs.declared.Status.{Status}
 use Rattle.place.specs.Problem.{Problem}
 use Rattle.rules.specs.Read.{mark_of, point_in, read}

@@ -43,7 +43,7 @@ use Rattle.rules.specs.Read.{mark_of, point_in, points_from, read}
 use Rattle.rules.specs.Ready.{IsRound, RoundBelow}
 use Rattle.rules.specs.Moves.{After, State, mark, goes, ends_at_place, ends_at_facet, make_move}
 use Rattle.rules.specs.declared.Round.{Round}
-use Rattle.moves.specs.declared.holding.Held.{Held}
+use Rattle.arrays.specs.declared.holding.Held.{Held}
 use Rattle.moves.specs.declared.Status.{Status}
 use Rattle.marks.specs.Reading.{label_reading, table_problem}
 use Rattle.std.proofs.Common.{Ok}

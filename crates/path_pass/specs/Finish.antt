@@ -15,7 +15,7 @@ use Rattle.rules.specs.Ready.{IsRound, RoundBelow, Ready}
 use Rattle.rules.specs.Read.{point_in, points_from, read, CanCompute}
 use Rattle.rules.specs.Moves.{State}
 use Rattle.rules.specs.declared.Round.{Round}
-use Rattle.moves.specs.declared.holding.Held.{Held}
+use Rattle.arrays.specs.declared.holding.Held.{Held}
 use Rattle.moves.specs.declared.Status.{Status}
 use Rattle.marks.specs.Reading.{problem_from, table_problem, CanReadPoint, HasMarks, Readable}
 use Rattle.path_pass.specs.declared.Finish.{Finish}

@@ -9,11 +9,11 @@ ghost use Rattle.path_pass.specs.Finish.{CanPass, Finished, HasBegun, IsBegun};
 ghost use Rattle.path_pass.specs.Finish.{ended_of, labels_at, on_of, problem_in};
 ghost use Rattle.path_pass.specs.Looking.{LooksUp};
 
-use arrays::zeros;
+use arrays::{Held, zeros};
 use end_kinds::Kind;
 use grid::Grid;
 use marks::{Unknown, mark_in};
-use moves::{Held, Outcome, Status};
+use moves::{Outcome, Status};
 use positions::ENTRIES;
 use rules::Round;
 use ways::make_move;

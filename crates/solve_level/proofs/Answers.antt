@@ -24,7 +24,7 @@ use Rattle.grid_points.specs.Grid.{Grid, dimension, lent, next, num_indices, pre
 use Rattle.solve_pass.specs.Asked.{CanPassGame}
 use Rattle.game_weighed.specs.Levels.{Rests}
 use Rattle.moves.specs.Held.{state_of}
-use Rattle.moves.specs.declared.holding.Held.{Held}
+use Rattle.arrays.specs.declared.holding.Held.{Held}
 use Rattle.path_pass.specs.Finish.{Announced, Finished, first_point_of}
 use Rattle.path_pass.specs.declared.Finish.{Finish}
 use Rattle.path_pass.specs.declared.Finish.TheVariants.{Ended, Spent, Unknown as UnknownLabel}

@@ -9,11 +9,10 @@ ghost use Rattle.finder.specs.Run.{case_of, numbers_of};
 ghost use Rattle.solve_level.specs.Runs.{CanRunGame, run_problem};
 ghost use Rattle.place.specs.Path.{answer as answer_of};
 
-use arrays::round_of;
+use arrays::{Held, round_of};
 use finder::{RunAnswer, announce};
 use game_weighed::{Game, rests};
 use grid::Grid;
-use moves::Held;
 use solve_pass::pass;
 
 // The pass along the path of the game, and its answer.

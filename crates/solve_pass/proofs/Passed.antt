@@ -17,7 +17,7 @@ use Rattle.solve_pass.proofs.Places.{BareAt, at-facet-end, at-place-end, can_vis
 use Rattle.solve_pass.specs.Bare.{bare_after, labelled}
 use Rattle.solve_pass.specs.Asked.{CanPassGame, CanVisitGame}
 use Rattle.moves.specs.Held.{state_of}
-use Rattle.moves.specs.declared.holding.Held.{Held}
+use Rattle.arrays.specs.declared.holding.Held.{Held}
 use Rattle.moves.specs.declared.Status.{Status}
 use Rattle.path_laws.proofs.Filled.{FullyLabelled}
 use Rattle.path_laws.proofs.LabelsRead.{came_few, came_next, came_none}

@@ -12,7 +12,7 @@ use Rattle.solve_pass.specs.Bare.{labelled}
 use Rattle.solve_pass.specs.Asked.{CanLabel}
 use Rattle.game_losses.specs.Game.{game_label}
 use Rattle.moves.specs.Held.{state_of, state_with}
-use Rattle.moves.specs.declared.holding.Held.{Held}
+use Rattle.arrays.specs.declared.holding.Held.{Held}
 use Rattle.moves.specs.declared.Status.{Status}
 use Rattle.rules.proofs.PointsAfter.{after_taken, few-ready}
 use Rattle.rules.specs.Read.{point_after, point_on, CanCompute, ReadyPoint}

@@ -9,7 +9,7 @@ use Rattle.rules.specs.Read.{CanCompute, point_on}
 use Rattle.rules.specs.Ready.{IndicesBelow, IsRound, Ready, RoundBelow}
 use Rattle.rules.specs.Moves.{State}
 use Rattle.rules.specs.declared.Round.{Round}
-use Rattle.moves.specs.declared.holding.Held.{Held}
+use Rattle.arrays.specs.declared.holding.Held.{Held}
 
 -- the point that has just come in can be computed, and is a grid point of the game
 pub record CanLabel (g : Grid) (firsts owners rests losses : List ℕ) (indices : ℕ) (a : State) : Type 0 where

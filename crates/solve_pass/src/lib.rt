@@ -14,10 +14,11 @@ ghost use Rattle.rules.specs.Read.{point_on};
 ghost use Rattle.refinement_levels.specs.Levels.{game_problem};
 ghost use Rattle.rules.specs.Moves.{make_move};
 
+use arrays::Held;
 use end_kinds::Kind;
 use game_point::label_at;
 use game_weighed::Game;
-use moves::{Held, Outcome, Status, advance};
+use moves::{Outcome, Status, advance};
 use path_pass::{Finish, begun, ended, on};
 use rules::Round;
 use ways::make_move;

@@ -7,8 +7,9 @@ ghost use Rattle.moves.specs.Held.{state_of};
 ghost use Rattle.trail_steps.specs.Reading.{CanGoOn};
 ghost use Rattle.trail_following.specs.Reached.{ReachesFrom};
 
+use arrays::Held;
 use grid::Grid;
-use moves::{Held, Outcome, Status};
+use moves::{Outcome, Status};
 use positions::ENTRIES;
 use rules::Round;
 use trail_records::IndexSets;

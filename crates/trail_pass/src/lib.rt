@@ -6,9 +6,10 @@ ghost use Rattle.std.specs.Prelude.{◌≡◌, length};
 ghost use Rattle.path_pass.specs.Finish.{CanPass, Finished, problem_in};
 ghost use Rattle.trail_pass.specs.Recording.{HasRoomForTrail, Recorded};
 
+use arrays::Held;
 use end_kinds::Kind;
 use grid::Grid;
-use moves::{Held, Outcome};
+use moves::Outcome;
 use path_pass::{Finish, begun, ended, look_up, on};
 use positions::ENTRIES;
 use rules::Round;

@@ -22,7 +22,7 @@ use Rattle.grid_points.proofs.CoordinatesBelow.{low-divisions}
 use Rattle.grid_points.proofs.Points.{point-long}
 use Rattle.grid.specs.declared.Grid.{Grid as GridStruct}
 use Rattle.moves.specs.Held.{state_of}
-use Rattle.moves.specs.declared.holding.Held.{Held}
+use Rattle.arrays.specs.declared.holding.Held.{Held}
 use Rattle.moves.specs.declared.Status.{Status}
 use Rattle.place.specs.LabelsRead.{came_in, labels_read}
 use Rattle.place.specs.Places.{Simplex, set_t, set_u}

@@ -4,7 +4,7 @@ use Rattle.combinatorics.specs.Front.{front}
 use Rattle.grid_points.specs.Grid.{position}
 use Rattle.grid.specs.Made.{IsMade, shape}
 use Rattle.grid.specs.declared.Grid.{Grid as GridStruct}
-use Rattle.moves.specs.declared.holding.Held.{Held}
+use Rattle.arrays.specs.declared.holding.Held.{Held}
 use Rattle.moves.specs.declared.Status.{Status}
 use Rattle.path_laws.specs.Demand.{HasStart}
 use Rattle.positions.specs.Binomials.{Measured}

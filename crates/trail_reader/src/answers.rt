@@ -6,9 +6,9 @@ ghost use Rattle.place.specs.Problem.{problem_of};
 ghost use Rattle.trail_reader.specs.Begun.{CanLocate, CanReadTrail, CanRebuild, IsLocated, IsPlace, Reads};
 ghost use Rattle.trail_reader.specs.Reading.{read_answer, read_points};
 
-use arrays::round_of;
+use arrays::{Held, round_of};
 use grid::Grid;
-use moves::{Held, Status};
+use moves::{Status, put_points};
 use path_pass::begin;
 use positions::ENTRIES;
 use rules::Round;
@@ -65,7 +65,7 @@ fn placed(
     ensures { IsPlace (state_of round.now held.now s) m s labels_read lent result }
 {
     let mut points = lent;
-    let count = held.put_points(round, s, m, 0, &mut points);
+    let count = put_points(held, round, s, m, 0, &mut points);
     let answer = ReadAnswer::Place {
         points: count,
         t: mask(s.t),

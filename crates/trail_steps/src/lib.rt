@@ -12,10 +12,10 @@ ghost use Rattle.trail_steps.specs.Reading.{CanCompare, bytes_standing, come_pos
 ghost use Rattle.trail_steps.specs.Reading.{marks_with, way_of};
 ghost use Rattle.ways.specs.Ways.{held_marks};
 
-use arrays::{has, position_at};
+use arrays::{Held, has, position_at};
 use grid::Grid;
 use marks::position_in;
-use moves::{Held, Status};
+use moves::Status;
 use positions::ENTRIES;
 use rules::Round;
 use trail_records::{IndexSets, standing_bytes};

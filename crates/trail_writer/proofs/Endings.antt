@@ -12,7 +12,7 @@ use Rattle.combinatorics.proofs.Basics.{absurd_bool}
 use Rattle.combinatorics.proofs.Fronts.{front-none}
 use Rattle.combinatorics.specs.Front.{front}
 use Rattle.end_kinds.specs.declared.Kind.{Kind}
-use Rattle.moves.specs.declared.holding.Held.{Held}
+use Rattle.arrays.specs.declared.holding.Held.{Held}
 use Rattle.moves.specs.declared.Status.{Status}
 use Rattle.path_pass.specs.Finish.{Finished}
 use Rattle.finder.specs.Run.{case_of, numbers_of, run_refusal}

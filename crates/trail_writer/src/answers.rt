@@ -11,10 +11,9 @@ ghost use Rattle.trail_writer.specs.Again.{CanWriteTrail, HasCounted, has_room, 
 ghost use Rattle.trail_writer.specs.Writing.{announces, trail_answer_buffer, trail_answer, trail_buffer};
 ghost use Rattle.trail_writer.specs.Writing.{trail_case, unwritten, whole_trail};
 
-use arrays::round_of;
+use arrays::{Held, round_of};
 use finder::{RunAnswer, announce, first_run_no};
 use grid::Grid;
-use moves::Held;
 use path_pass::Finish;
 use positions::ENTRIES;
 use rules::Round;

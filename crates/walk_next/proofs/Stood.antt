@@ -20,7 +20,7 @@ use Rattle.grid_points.proofs.Points.{on_points}
 use Rattle.grid_points.specs.Grid.{Point, is_grid_point, num_indices, position}
 use Rattle.grid.specs.Made.{shape}
 use Rattle.grid.specs.declared.Grid.{Grid as GridStruct}
-use Rattle.moves.specs.declared.holding.Held.{Held}
+use Rattle.arrays.specs.declared.holding.Held.{Held}
 use Rattle.moves.specs.declared.Status.{Status}
 use Rattle.place.specs.Places.{Simplex, is_place, label_set, within}
 use Rattle.place.specs.Problem.{Problem, label}

@@ -2,7 +2,7 @@
 use Rattle.std.specs.Prelude.{Bool, true, ◌&&◌, cond, List, ◌≡◌, ℕ, ◌+◌, ◌<◌, eqb, length}
 use Rattle.grid_points.specs.Grid.{at}
 use Rattle.grid.specs.declared.Grid.{Grid as GridStruct}
-use Rattle.moves.specs.declared.holding.Held.{Held}
+use Rattle.arrays.specs.declared.holding.Held.{Held}
 use Rattle.moves.specs.declared.Status.{Status}
 use Rattle.walk_next.specs.Spares.{label_at}
 use Rattle.walk_ways.specs.Standing.{Standing}

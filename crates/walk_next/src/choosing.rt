@@ -3,9 +3,9 @@ ghost use Rattle.std.specs.Prelude.{◌≡◌};
 ghost use Rattle.walk_next.specs.Choosing.{CanChoose, CanFill, MarksFilledBy};
 ghost use Rattle.walk_ways.specs.Standing.{IsRoundOf, next_in};
 
-use arrays::label_in;
+use arrays::{Held, label_in};
 use grid::Grid;
-use moves::{Held, Status};
+use moves::Status;
 use rules::Round;
 use walk_places::Walk;
 use walk_ways::{Next, from_other, from_start};

@@ -20,7 +20,7 @@ use Rattle.grid_points.specs.Grid.{Grid, Point, at, is_grid_point, num_indices, 
 use Rattle.grid.specs.Made.{IsMade, shape}
 use Rattle.grid_points.specs.Questions.{grid_questions, question5}
 use Rattle.grid.specs.declared.Grid.{Grid as GridStruct}
-use Rattle.moves.specs.declared.holding.Held.{Held}
+use Rattle.arrays.specs.declared.holding.Held.{Held}
 use Rattle.place.specs.Places.{Simplex, is_place, label_set, order, set_t, set_u, within}
 use Rattle.place.specs.Problem.{Problem}
 use Rattle.place.specs.Questions.{question6, question7}

@@ -11,7 +11,7 @@ use Rattle.grid_points.proofs.Points.{in_points, on_points, position_in_lem}
 use Rattle.grid_points.specs.Grid.{Point, at, is_grid_point, num_points, points, position}
 use Rattle.grid.specs.Made.{shape}
 use Rattle.grid.specs.declared.Grid.{Grid as GridStruct}
-use Rattle.moves.specs.declared.holding.Held.{Held}
+use Rattle.arrays.specs.declared.holding.Held.{Held}
 use Rattle.place.specs.Places.{Simplex}
 use Rattle.place.specs.Problem.{Problem, label}
 use Rattle.path_laws.proofs.Accepted.{accepted_of}

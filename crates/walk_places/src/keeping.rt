@@ -4,8 +4,7 @@ ghost use Rattle.combinatorics.specs.Front.{front};
 ghost use Rattle.walk_places.specs.Walks.{holds_numbers, kept_as, nowhere, same_place};
 
 use crate::Place;
-use arrays::padded;
-use moves::Held;
+use arrays::{Held, padded};
 
 // The first n numbers of the order, 0 behind them.
 fn cut(order: &[u32; 16], n: usize) -> [u32; 16]

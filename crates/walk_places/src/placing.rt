@@ -10,9 +10,8 @@ ghost use Rattle.walk_places.specs.Walks.{place_of, table_on};
 
 use crate::keeping::held_in;
 use crate::{Both, Place, Walk};
-use arrays::round_of;
+use arrays::{Held, round_of};
 use grid::Grid;
-use moves::Held;
 use positions::ENTRIES;
 use walk_recogniser::{Sets, read_labels, recognise};
 

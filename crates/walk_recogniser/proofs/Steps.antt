@@ -24,7 +24,7 @@ use Rattle.grid_points.specs.Grid.{is_grid_point}
 use Rattle.grid_points.specs.Grid.{num_blocks, num_indices, num_points, points as grid_points, position, size}
 use Rattle.grid.specs.Made.{IsMade, shape}
 use Rattle.grid.specs.declared.Grid.{Grid as GridStruct}
-use Rattle.moves.specs.declared.holding.Held.{Held}
+use Rattle.arrays.specs.declared.holding.Held.{Held}
 use Rattle.place.specs.Places.{Simplex, first_back_outside}
 use Rattle.positions.proofs.ByTails.{hits, hits_in, hits_out, tail-moved}
 use Rattle.positions.specs.Steps.{after_steps}

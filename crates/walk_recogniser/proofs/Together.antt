@@ -21,7 +21,7 @@ use Rattle.grid_points.proofs.Round.{block_at, block-fits, block_spans}
 use Rattle.grid_points.specs.Grid.{Point, at, block_of, first_index, is_grid_point, num_indices, size}
 use Rattle.grid.specs.Made.{IsMade, shape}
 use Rattle.grid.specs.declared.Grid.{Grid as GridStruct}
-use Rattle.moves.specs.declared.holding.Held.{Held}
+use Rattle.arrays.specs.declared.holding.Held.{Held}
 use Rattle.place.specs.Coefficients.{coefficients}
 use Rattle.place.specs.Places.{first_back_outside}
 use Rattle.place.specs.Problem.{Problem, with_labels}

@@ -8,7 +8,7 @@ use Rattle.place.specs.Coefficients.{coefficients}
 use Rattle.place.specs.Problem.{Problem}
 use Rattle.positions.specs.Binomials.{Measured}
 use Rattle.rules.specs.Mask.{bit}
-use Rattle.moves.specs.declared.holding.Held.{Held}
+use Rattle.arrays.specs.declared.holding.Held.{Held}
 use Rattle.rules.specs.Ready.{IndicesBelow}
 use Rattle.rules.specs.declared.Round.{Round}
 use Rattle.walks.specs.Kept.{is_kept, kept_points, zero_outside}

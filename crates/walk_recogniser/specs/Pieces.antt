@@ -3,7 +3,7 @@ use Rattle.std.specs.Prelude.{Bool, Option, Some, None, true, false, not, â—Œ&&â
 use Rattle.grid_points.specs.Grid.{Grid, Point, at, block_of, is_grid_point, position}
 use Rattle.grid.specs.Made.{shape}
 use Rattle.grid.specs.declared.Grid.{Grid as GridStruct}
-use Rattle.moves.specs.declared.holding.Held.{Held}
+use Rattle.arrays.specs.declared.holding.Held.{Held}
 use Rattle.place.specs.Places.{first_back_outside}
 use Rattle.place.specs.Problem.{Problem}
 use Rattle.positions.specs.Steps.{after_steps, CanTakeSteps}

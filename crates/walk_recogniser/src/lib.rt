@@ -12,11 +12,10 @@ mod coefficients;
 mod free;
 mod points;
 
-use arrays::zeros;
+use arrays::{Held, zeros};
 use coefficients::coefficients;
 use free::{is_free, sets_of};
 use grid::Grid;
-use moves::Held;
 use points::mark_points;
 pub use points::read_labels;
 use positions::ENTRIES;

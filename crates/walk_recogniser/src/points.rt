@@ -4,10 +4,9 @@ ghost use Rattle.rules.specs.Ready.{IndicesBelow};
 ghost use Rattle.rules.specs.Moves.{source};
 ghost use Rattle.walk_recogniser.specs.Pieces.{CanMark, CanReadLabels, IsMark, LabelsPut, Marked, OnGrid};
 
-use arrays::{first_outside, position_at};
+use arrays::{Held, first_outside, position_at};
 use grid::Grid;
 use label_table::byte_at;
-use moves::Held;
 use positions::ENTRIES;
 use rules::Round;
 

@@ -5,7 +5,7 @@ use Rattle.combinatorics.specs.Front.{padded}
 use Rattle.grid_points.specs.Grid.{Grid}
 use Rattle.grid.specs.Made.{shape}
 use Rattle.grid.specs.declared.Grid.{Grid as GridStruct}
-use Rattle.moves.specs.declared.holding.Held.{Held}
+use Rattle.arrays.specs.declared.holding.Held.{Held}
 use Rattle.place.specs.Places.{Simplex, is_place}
 use Rattle.place.specs.Problem.{Problem}
 use Rattle.place.specs.Questions.{table_questions}

@@ -7,9 +7,9 @@ ghost use Rattle.walk_places.specs.Walks.{table_on};
 ghost use Rattle.walk_views.specs.Viewed.{CanPoint, no_points, points_at, points_of, points_on};
 
 use crate::PlacePoints;
-use arrays::round_of;
+use arrays::{Held, round_of};
 use grid::Grid;
-use moves::{Held, Status};
+use moves::{Status, put_points};
 use walk_calls::{first_table_no, grid_in};
 use walk_next::spare;
 use walk_places::{Walk, held_in, is_kept, seen};
@@ -40,7 +40,7 @@ fn put(g: Grid, w: Walk, labels: &[u8], held: &Held, n: usize, sets: Sets) -> Pl
     };
     let round = round_of(g);
     let mut numbers = [0u16; 256];
-    let count = held.put_points(&round, s, g.indices, 0, &mut numbers);
+    let count = put_points(&held, &round, s, g.indices, 0, &mut numbers);
     PlacePoints {
         code: 0,
         count,

@@ -24,7 +24,7 @@ use Rattle.grid_points.specs.Grid.{Point, at, block_of, is_grid_point, num_indic
 use Rattle.grid.specs.Made.{shape}
 use Rattle.grid.specs.declared.Grid.{Grid as GridStruct}
 use Rattle.moves.specs.Held.{CanStep, state_of}
-use Rattle.moves.specs.declared.holding.Held.{Held}
+use Rattle.arrays.specs.declared.holding.Held.{Held}
 use Rattle.path_laws.proofs.Accepted.{accepted_of, accepted-table}
 use Rattle.path_laws.proofs.BlocksOfGrid.{back_below}
 use Rattle.path_laws.proofs.Filled.{fill, filled_table, filled_full, filled-label}

@@ -36,7 +36,7 @@ use Rattle.walk_ways.specs.Standing.{IsRoundOf, Standing, leads_back}
 use Rattle.walk_places.specs.Walks.{before_of, nowhere, place_of, same_place, walk_on}
 use Rattle.walk_ways.specs.Ways.{way_in}
 use Rattle.walk_places.specs.declared.Walk.{Walk as WalkStruct}
-use Rattle.moves.specs.declared.holding.Held.{Held}
+use Rattle.arrays.specs.declared.holding.Held.{Held}
 use Rattle.moves.specs.declared.Status.{Status}
 use Rattle.rules.specs.declared.Round.{Round}
 

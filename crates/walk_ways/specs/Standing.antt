@@ -11,7 +11,7 @@ use Rattle.place.specs.Questions.{table_questions}
 use Rattle.questions.specs.Questions.{first_no}
 use Rattle.rules.specs.Mask.{bit}
 use Rattle.rules.specs.Read.{mark_of}
-use Rattle.moves.specs.declared.holding.Held.{Held}
+use Rattle.arrays.specs.declared.holding.Held.{Held}
 use Rattle.moves.specs.declared.Status.{Status}
 use Rattle.rules.specs.Ready.{IsRound, RoundBelow}
 use Rattle.rules.specs.declared.Round.{Round}

@@ -5,8 +5,9 @@ ghost use Rattle.walk_ways.specs.Standing.{IsRoundOf, leads_back, next_in, Stand
 use crate::ending::{refused, told};
 use crate::one_way::way;
 use crate::{Leads, Move, Next};
+use arrays::Held;
 use grid::Grid;
-use moves::{Held, Status};
+use moves::Status;
 use rules::Round;
 use walk_places::{Place, Walk, none, same_place};
 

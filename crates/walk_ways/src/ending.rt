@@ -6,9 +6,10 @@ ghost use Rattle.moves.specs.Room.{CanPut};
 ghost use Rattle.walk_ways.specs.Ends.{end_as, refused_as, told_as, CanTellEnd};
 
 use crate::{Leads, Move, Next, WalkAnswer};
+use arrays::Held;
 use end_kinds::Kind;
 use grid::Grid;
-use moves::{Held, Status};
+use moves::{Status, put_points};
 use rules::Round;
 use walk_places::none;
 
@@ -20,7 +21,7 @@ fn ended(g: Grid, round: &Round, held: &Held, s: Status, kind: Kind, h: usize, f
     ensures { result ≡ end_as g (state_of round.now held.now s) kind h from }
 {
     let mut simplex = [0u16; 256];
-    let vertices = held.put_points(round, s, g.indices, from, &mut simplex);
+    let vertices = put_points(held, round, s, g.indices, from, &mut simplex);
     let block = g.block_of(h) as u8 + 1;
     Next {
         answer: WalkAnswer::Ended {

@@ -5,7 +5,8 @@ ghost use Rattle.rules.specs.Moves.{make_move};
 ghost use Rattle.walk_ways.specs.Ways.{CanTry, way_in};
 
 use crate::{Leads, Move};
-use moves::{Held, Outcome, Status};
+use arrays::Held;
+use moves::{Outcome, Status};
 use rules::Round;
 use walk_places::{kept_as, none};
 use ways::make_move;

@@ -13,7 +13,7 @@ use Rattle.combinatorics.proofs.EditsOfArrays.{counted}
 use Rattle.combinatorics.specs.Edits.{found}
 use Rattle.moves.proofs.Cases.{Leaving, label-joins, leaving-leaves, leaving-ready}
 use Rattle.moves.specs.Held.{state_of}
-use Rattle.moves.specs.declared.holding.Held.{Held}
+use Rattle.arrays.specs.declared.holding.Held.{Held}
 use Rattle.moves.specs.declared.Status.{Status}
 use Rattle.rules.specs.Mask.{bit}
 use Rattle.rules.specs.Read.{position_at}

@@ -3,8 +3,8 @@ ghost use Rattle.std.specs.Prelude.{◌≡◌};
 ghost use Rattle.moves.specs.Held.{CanGrow, CanJoin, answered, state_of};
 ghost use Rattle.rules.specs.Moves.{grow as grown, joined};
 
-use arrays::{add, find, first_outside, has, insert, is_filled, without};
-use moves::{Held, Outcome, Status};
+use arrays::{Held, add, find, first_outside, has, insert, is_filled, without};
+use moves::{Outcome, Status};
 use rules::Round;
 
 // Index h joins T before entry i of the order, and the point behind that entry comes in.

@@ -11,9 +11,9 @@ ghost use Rattle.ways.specs.Ways.{CanMove, CanTell, gone_by, held_marks, way_aft
 
 mod joining;
 
-use arrays::{find, has, label_in, position_at};
+use arrays::{Held, find, has, label_in, position_at};
 use joining::grow;
-use moves::{Held, Outcome, Status};
+use moves::{Outcome, Status, leave};
 use rules::Round;
 
 // The point that leaves, by its number; or the index that joins T; or neither, which only a reader meets.
@@ -61,7 +61,7 @@ pub fn moved_by(held: &mut Held, round: &Round, s: Status, way: Way) -> Outcome
     ensures { answered round.now held.new s result ≡ way_after (state_of round.now held.old s) way }
 {
     match way {
-        Way::Leaves(i) => held.leave(round, s, i),
+        Way::Leaves(i) => leave(held, round, s, i),
         Way::Joins(h) => grow(held, round, s, h),
         Way::Nothing => Outcome::FacetEnd(0),
     }

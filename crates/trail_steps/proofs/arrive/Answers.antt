@@ -3,7 +3,7 @@ use Rattle.std.proofs.Common.{◌≡◌, refl, ap, ◌∙◌, suc, ◌*◌, arit
 use borrow.Author.Tests.{le-ltb, lt-ltb}
 use lib.Seq.{take-set-lt}
 use Rattle.moves.specs.Held.{state_of, with_marks}
-use Rattle.moves.specs.declared.holding.Held.{Held}
+use Rattle.arrays.specs.declared.holding.Held.{Held}
 use Rattle.rules.specs.Moves.{State}
 use Rattle.trail_steps.specs.Reading.{marks_with}
 use Rattle.trail_steps.proofs.arrive.Goals as goal

@@ -1,7 +1,7 @@
 -- `standing::stand` meets its contract. Assumes nothing.
 use borrow.Author.Rules.{rules}
 use mathlib.Core.Path.{◌≡◌, sym, ◌∙◌}
-use Rattle.moves.specs.declared.holding.Held.{Held}
+use Rattle.arrays.specs.declared.holding.Held.{Held}
 use Rattle.walk_next.proofs.Stood.{all_seen, can-choose, can_see, carries_others, carries_own, labels-low}
 use Rattle.walk_next.proofs.Stood.{no-place-there, not_all_place, not_kept_place, present}
 use Rattle.walk_ways.proofs.Chosen.{refused-is}

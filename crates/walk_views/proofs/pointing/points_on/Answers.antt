@@ -6,7 +6,7 @@ use Prim.Native.Nat.{ℕ, pred, ◌-◌}
 use native.Mathlib.Omega.{arith}
 use Rattle.grid.proofs.Fields.{indices-few}
 use Rattle.grid.specs.Made.{shape}
-use Rattle.moves.specs.declared.holding.Held.{Held}
+use Rattle.arrays.specs.declared.holding.Held.{Held}
 use Rattle.place.specs.Places.{is_place}
 use Rattle.walk_next.proofs.Begins.{count-some}
 use Rattle.walk_next.proofs.Stood.{all_seen, labels-low, not_all_place, not_kept_place}
