@@ -10,7 +10,7 @@ use end_kinds::Kind;
 use grid::Grid;
 use moves::Outcome;
 use nearest_met::{Tally, came_in, meet};
-use path_pass::{Finish, begun, ended, look_up, on};
+use path_pass::{Finish, asked, begun, ended, look_up, on};
 use positions::ENTRIES;
 use rules::Round;
 use ways::make_move;
@@ -63,8 +63,9 @@ fn reported(finish: Finish, t: Tally) -> NotingPass
     }
 }
 
-// From {v} to the path's end, or until the budget is spent, as a run passes: each vertex is noted where it comes in for
-// the first time. The list is the pass's own, since a run that reaches no end writes none.
+// From {v} to the path's end, or until the budget is spent, of which the places are counted down as by a run: each
+// vertex is noted where it comes in for the first time. The list is the pass's own, since a run that reaches no end
+// writes none.
 pub fn pass_noting(
     g: Grid,
     binomials: &[u16; ENTRIES],
@@ -87,13 +88,11 @@ pub fn pass_noting(
     let tails = positions::tails(&held.first, g.indices);
     let mut t = none_met();
     let mut at = begun(held, g.indices);
-    for visited in 0..budget {
+    for left in (0..budget).rev() {
+        let visited = budget - left - 1;
         let s = at.status;
         if let Err(unknown) = look_up(g, binomials, &tails, table, round, held, s) {
-            return unreported(Finish::Unknown {
-                places: visited,
-                position: unknown.position,
-            });
+            return unreported(asked(unknown, visited));
         }
         let came = came_in(held, s);
         t = meet(

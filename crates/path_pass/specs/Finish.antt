@@ -80,6 +80,10 @@ pub record HasBegun (old new : Held) (m : ℕ) (at : Stand) : Type 0 where
   pub no_coefficients : new.coefficients ≡ replicate 16 0
   pub no_marks : new.marks ≡ replicate 16 0
 
+-- how it ended, where place number `visited`, from 0, needs the label at this position
+abbrev pub asked_of : ℕ → ℕ → Finish
+asked_of position visited = UnknownLabel visited position
+
 -- the number of the first point of the complete simplex
 abbrev pub first_point_of : Kind → ℕ
 first_point_of place_end = 0

@@ -6,7 +6,7 @@ ghost use Rattle.std.specs.Prelude.{◌≡◌, ◌+◌, ◌^◌, ◌≤◌, ◌<
 ghost use Rattle.marks.specs.Reading.{CanFind, Readable, table_problem};
 ghost use Rattle.moves.specs.Held.{state_of};
 ghost use Rattle.path_pass.specs.Finish.{CanPass, Finished, HasBegun, IsBegun};
-ghost use Rattle.path_pass.specs.Finish.{ended_of, labels_at, on_of, problem_in};
+ghost use Rattle.path_pass.specs.Finish.{asked_of, ended_of, labels_at, on_of, problem_in};
 ghost use Rattle.path_pass.specs.Looking.{LooksUp};
 
 use arrays::{Held, zeros};
@@ -94,6 +94,16 @@ pub fn begun(held: &mut Held, m: usize) -> Stand
     }
 }
 
+// How a pass ended at place number `visited`, from 0, which needs a label that is not yet known.
+pub fn asked(unknown: Unknown, visited: u64) -> Finish
+    ensures { result ≡ asked_of unknown.position visited }
+{
+    Finish::Unknown {
+        places: visited,
+        position: unknown.position,
+    }
+}
+
 // The labels that are read at a place: that of the point which has come in, if one has.
 pub fn labels_at(s: Status) -> u64
     ensures { result ≡ labels_at s.rule }
@@ -127,7 +137,7 @@ pub fn ended(at: Stand, kind: Kind, index: usize, visited: u64) -> Finish
     }
 }
 
-// From {v} to the path's end, or until the budget is spent.
+// From {v} to the path's end, or until the budget is spent, of which the places are counted down.
 pub fn pass(
     g: Grid,
     binomials: &[u16; ENTRIES],
@@ -141,12 +151,10 @@ pub fn pass(
 {
     let tails = positions::tails(&held.first, g.indices);
     let mut at = begun(held, g.indices);
-    for visited in 0..budget {
+    for left in (0..budget).rev() {
+        let visited = budget - left - 1;
         if let Err(unknown) = look_up(g, binomials, &tails, table, round, held, at.status) {
-            return Finish::Unknown {
-                places: visited,
-                position: unknown.position,
-            };
+            return asked(unknown, visited);
         }
         match make_move(held, round, at.status) {
             Outcome::Moved(status) => at = on(at, status),

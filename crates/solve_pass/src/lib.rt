@@ -60,11 +60,12 @@ pub fn pass(game: &Game, indices: usize, round: &Round, held: &mut Held, budget:
         Finished (game_problem g (take indices held.old.first) game.now.losses.now) budget round.now held.new result }
 {
     let mut at = begun(held, indices);
-    for visited in 0..budget {
+    for left in (0..budget).rev() {
+        let visited = budget - left - 1;
         let outcome = visit(game, indices, round, held, at.status);
         match outcome {
             Outcome::Moved(status) => {
-                if visited + 1 == budget {
+                if left == 0 {
                     return Finish::Spent;
                 }
                 at = on(at, status);

@@ -10,7 +10,7 @@ use arrays::Held;
 use end_kinds::Kind;
 use grid::Grid;
 use moves::Outcome;
-use path_pass::{Finish, begun, ended, look_up, on};
+use path_pass::{Finish, asked, begun, ended, look_up, on};
 use positions::ENTRIES;
 use rules::Round;
 use trail_records::IndexSets;
@@ -31,9 +31,9 @@ fn unrecorded(finish: Finish) -> RecordingPass
     RecordingPass { finish, bytes: 0 }
 }
 
-// From {v} to the path's end, or until the budget is spent. The record of a place goes from byte `from` to byte `end`.
-// It is counted where the move to the place is made, whose rule the compiler then knows, and stored where the pass
-// writes.
+// From {v} to the path's end, or until the budget is spent, of which the places are counted down. The record of a place
+// goes from byte `from` to byte `end`. It is counted where the move to the place is made, whose rule the compiler then
+// knows, and stored where the pass writes: one loop for both passes, since two take twice as long.
 pub fn pass_recording(
     g: Grid,
     binomials: &[u16; ENTRIES],
@@ -58,13 +58,11 @@ pub fn pass_recording(
     let mut from: usize = 0;
     let mut end: usize = 3;
     let mut at = begun(held, g.indices);
-    for visited in 0..budget {
+    for left in (0..budget).rev() {
+        let visited = budget - left - 1;
         let s = at.status;
         if let Err(unknown) = look_up(g, binomials, &tails, table, round, held, s) {
-            return unrecorded(Finish::Unknown {
-                places: visited,
-                position: unknown.position,
-            });
+            return unrecorded(asked(unknown, visited));
         }
         let gone = tell(&held.marks, s, trail, from, before, writes);
         let status = match make_move(held, round, s) {

@@ -1,6 +1,6 @@
 -- `nearest_pass::pass_noting` meets its contract. Assumes nothing.
 use mathlib.Core.Path.{◌≡◌, sym, ap, ◌∙◌}
-use Prim.Native.Nat.{suc}
+use Prim.Native.Nat.{suc, ◌+◌, ◌-◌}
 use lib.ListN.{length, take}
 use native.Mathlib.Omega.{arith}
 use Rattle.combinatorics.proofs.EditsOfArrays.{counted}
@@ -29,25 +29,26 @@ use Rattle.nearest_met.specs.Meeting.{Kept, vertex_come}
 use Rattle.nearest_visited.proofs.Nearest.{grid-accepted}
 use Rattle.nearest_visited.specs.Visited.{vertices_of}
 use Rattle.nearest_pass.proofs.pass_noting.Goals as goal
-use Rattle.nearest_pass.proofs.pass_noting.Goals.{After-came_in-came, After-make_move, In-loop-visited, In_default}
+use Rattle.nearest_pass.proofs.pass_noting.Goals.{After-came_in-came, After-make_move, In-loop-left, In_default}
 
-pub loop-visited-init : goal.loop-visited-init
-loop-visited-init c =
+pub loop-left-init : goal.loop-left-init
+loop-left-init c =
     let a = c.args in
     let w = c.requires.can_pass in
     let n = c.requires.can_note in
+    let none : a.budget - a.budget ≡ 0 = omega arith in
     record {
-      passing = passes-first a.g w.readable.made a.held.now c.begun-at.new.held a.table.now w.accepted w.is_round
-          c.begun-at.result c.begun-at.ensures;
-      kept = rw c.none_met-t.ensures
+      passing = rw none (passes-first a.g w.readable.made a.held.now c.begun-at.new.held a.table.now w.accepted
+          w.is_round c.begun-at.result c.begun-at.ensures);
+      kept = rw (none, c.none_met-t.ensures)
           (kept-none (shape a.g) (grid-accepted w.accepted) a.w.now n.on_grid a.given a.list.now n.room);
     }
 
-abbrev place : In-loop-visited → Place
+abbrev place : In-loop-left → Place
 place c =
     let a = c.args in
     let w = c.requires.can_pass in
-    let l = c.loop-visited in
+    let l = c.loop-left in
     let tails = c.tails-tails in
     record {
       g = a.g;
@@ -58,42 +59,46 @@ place c =
       round = a.round.now;
       held = l.held;
       budget = a.budget;
-      visited = l.visited;
+      visited = a.budget - l.left;
       stand = l.at;
       passing = l.invariant.passing;
-      more = c.loop-visited-test.true;
+      more = omega arith;
       below = w.below;
       tails = tails.result;
       sums = tails.ensures;
     }
 
 pub look_up-requires-clause-can_find : goal.look_up-requires-clause-can_find
-look_up-requires-clause-can_find c = can_look (place (goal.at.look_up-requires-clause-can_find c).In-loop-visited)
+look_up-requires-clause-can_find c = can_look (place (goal.at.look_up-requires-clause-can_find c).In-loop-left)
+
+-- the places visited before this one, as the code works them out
+number : (c : In-loop-left) → c.args.budget - (c.loop-left.left - 1) - 1 ≡ (place c).visited
+number c = omega arith
 
 pub returns-in-Err-clause-finished : goal.returns-in-Err-clause-finished
 returns-in-Err-clause-finished c =
-    let P = place (goal.at.returns-in-Err-clause-finished c).In-loop-visited in
-    rw c.unreported.ensures.0 (asks P c.in-Err.ensures.0)
+    let at = (goal.at.returns-in-Err-clause-finished c).In-loop-left in
+    rw (c.unreported.ensures.0, c.asked.ensures, number at) (asks (place at) c.in-Err.ensures.0)
 
 told : (c : In_default)
-    → let P = place (goal.at.In_default c).In-loop-visited in
+    → let P = place (goal.at.In_default c).In-loop-left in
     IsRead (table_problem P.g P.table) (stands P) P.round c.look_up.new.held P.stand.status
-told c = has_looked (place (goal.at.In_default c).In-loop-visited) c.look_up.new.held {x = c.in_default.field-0}
+told c = has_looked (place (goal.at.In_default c).In-loop-left) c.look_up.new.held {x = c.in_default.field-0}
     c.in_default.ensures
 
 pub came_in-came-requires : goal.came_in-came-requires
 came_in-came-requires c =
-    let P = place (goal.at.came_in-came-requires c).In-loop-visited in
+    let P = place (goal.at.came_in-came-requires c).In-loop-left in
     let can = computed P.g P.start P.table P.ok (stands P) P.visited P.passing.here in
     let many = counted P.held.order P.stand.status.count P.held.order_long can.few in
     (omega (arith, can.low, many), omega (arith, can.few, many))
 
 -- the vertex that has come in, by the mark read of its point
 came-is : (c : After-came_in-came)
-    → let P = place (goal.at.After-came_in-came c).In-loop-visited in
+    → let P = place (goal.at.After-came_in-came c).In-loop-left in
     c.came_in-came.result ≡ vertex_come (shape P.g) (stands P)
 came-is c =
-    let P = place (goal.at.After-came_in-came c).In-loop-visited in
+    let P = place (goal.at.After-came_in-came c).In-loop-left in
     let R = told (goal.at.After-came_in-came c).In_default in
     let s = P.stand.status in
     c.came_in-came.ensures
@@ -106,7 +111,7 @@ meet-t-requires c =
     let a = c.args in
     let n = c.requires.can_note in
     let at = (goal.at.meet-t-requires c).After-came_in-came in
-    let P = place (goal.at.meet-t-requires c).In-loop-visited in
+    let P = place (goal.at.meet-t-requires c).In-loop-left in
     let R = told (goal.at.meet-t-requires c).In_default in
     record {
       indices_below = (
@@ -118,7 +123,7 @@ meet-t-requires c =
         n.measure,
         rw (came-is at, read-come P.g P.start P.table P.ok (stands P) P.visited P.passing.here R.is)
             (room_next P.g P.start P.table P.ok (stands P) P.visited P.passing.here a.w.now
-            n.on_grid a.given a.list.now n.room c.loop-visited.invariant.kept),
+            n.on_grid a.given a.list.now n.room c.loop-left.invariant.kept),
       );
     }
 
@@ -128,7 +133,7 @@ make_move-requires c =
 
 -- what it gives, by its outcome: the step from the place
 abbrev here : After-make_move → Place
-here c = place (goal.at.After-make_move c).In-loop-visited
+here c = place (goal.at.After-make_move c).In-loop-left
 
 steps : (c : After-make_move) (o : Outcome) → c.make_move.result ≡ o → MovesTo (here c) c.make_move.new.held o
 steps c o e =
@@ -157,7 +162,7 @@ met c =
     let H = rw (read-come P.g P.start P.table P.ok (stands P) P.visited P.passing.here R.is)
     at (c.meet-t.ensures (shape a.g) n.measure) in
     kept_met P.g P.start P.table P.ok (stands P) P.visited P.passing.here a.w.now n.on_grid
-    a.given a.list.now n.room c.loop-visited.invariant.kept
+    a.given a.list.now n.room c.loop-left.invariant.kept
     (came-is (goal.at.After-make_move c).After-came_in-came)
     H.tally H.marks H.written
 
@@ -185,7 +190,8 @@ returns-in-PlaceEnd c =
     let at = (goal.at.returns-in-PlaceEnd c).After-make_move in
     let P = here at in
     let M = steps at _ c.in-PlaceEnd.is in
-    rw (c.reported.ensures.0, c.reported.ensures.1, c.ended.ensures) record {
+    let count = number (goal.at.returns-in-PlaceEnd c).In-loop-left in
+    rw (c.reported.ensures.0, c.reported.ensures.1, c.ended.ensures, count) record {
       finished = place-ends P M;
       surveys = surveyed at (last-place P.g P.start P.table P.ok P.visited _ _ P.passing.here.1 (onward P M));
     }
@@ -195,14 +201,17 @@ returns-in-FacetEnd c =
     let at = (goal.at.returns-in-FacetEnd c).After-make_move in
     let P = here at in
     let M = steps at _ c.in-FacetEnd.is in
-    rw (c.reported-in-FacetEnd.ensures.0, c.reported-in-FacetEnd.ensures.1, c.ended-in-FacetEnd.ensures) record {
+    let count = number (goal.at.returns-in-FacetEnd c).In-loop-left in
+    rw (c.reported-in-FacetEnd.ensures.0, c.reported-in-FacetEnd.ensures.1, c.ended-in-FacetEnd.ensures, count) record {
       finished = facet-ends P M;
       surveys = surveyed at (last-facet P.g P.start P.table P.ok P.visited _ _ P.passing.here.1 (onward P M));
     }
 
-pub loop-visited-preserved : goal.loop-visited-preserved
-loop-visited-preserved c =
-    let at = (goal.at.loop-visited-preserved c).After-make_move in record {
+pub loop-left-preserved : goal.loop-left-preserved
+loop-left-preserved c =
+    let at = (goal.at.loop-left-preserved c).After-make_move in
+    let next : c.args.budget - (c.loop-left.left - 1) ≡ (here at).visited + 1 = omega arith in
+    rw next record {
       passing = passes_on (here at) (steps at _ c.in-Moved.is) c.on-at.ensures;
       kept = rw (counted-on (here at)) (met at);
     }
@@ -211,6 +220,6 @@ pub returns-clause-finished : goal.returns-clause-finished
 returns-clause-finished c =
     let a = c.args in
     let w = c.requires.can_pass in
-    let l = c.loop-visited in
-    rw c.unreported-2.ensures.0 (spends a.g w.readable.made a.held.now.first a.table.now w.accepted _ l.visited
-    l.invariant.passing.here a.budget (omega arith))
+    let l = c.loop-left in
+    rw c.unreported-2.ensures.0 (spends a.g w.readable.made a.held.now.first a.table.now w.accepted _
+    (a.budget - l.left) l.invariant.passing.here a.budget (omega arith))
