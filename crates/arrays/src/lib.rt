@@ -10,12 +10,16 @@ mod mask;
 mod points;
 mod rounds;
 mod shifts;
+#[cfg(test)]
+mod tests;
 mod ways;
 
 pub use holding::Held;
-pub use lists::{exchange, find, index_at, insert, label_in, position_at, remove};
+pub use lists::{
+    exchange, find, index_at, insert, label_in, position_at, remove, rotate_left, rotate_right,
+};
 pub use mask::{add, has, without};
 pub use points::{padded, zeros};
 pub use rounds::{first_outside, first_outside_or_zero, in_neither, is_filled};
-pub use shifts::shift;
+pub use shifts::{lower, raise, shift};
 pub use ways::round_of;
